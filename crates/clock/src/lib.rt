@@ -1,0 +1,3 @@
+// Clocks that run a little off, the terms of leases that are safe with them, and whether clocks have kept within their error.
+pub mod envelope;
+pub mod terms;
