@@ -1,7 +1,7 @@
 -- The judgement by an envelope is exact, and an extended envelope stands for one reading more.
 use mathlib.Core.Path.{_≡_, refl, sym, subst}
 use mathlib.Core.Logic.{_↔_}
-use mathlib.Core.Bool.{Bool, true, false, cond}
+use mathlib.Core.Bool.{Bool, true}
 use mathlib.Core.List.{List, [], _∷_, List·Memᴰ, List·Memᴰ·head, List·Memᴰ·tail}
 use Prim.Native.Nat.{ℕ, _+_, _*_, _-_, _≤_}
 use native.Mathlib.Omega.{arith}
@@ -9,7 +9,7 @@ use Rattle.std.proofs.shelf.Tests.{cond-both, leb-true, leb-false, le-leb, and-
 use Rattle.clock.specs.Moments.{million, Keeps}
 use Rattle.clock.specs.declared.envelope.Envelope.{Envelope}
 use Rattle.clock.specs.declared.envelope.Point.{Point}
-use Rattle.clock.specs.Envelopes.{aheadBy, behindBy, firstOne, admitsOne, extendOne, Encloses, NoneLater, KeepsSince, Exact, Extends}
+use Rattle.clock.specs.Envelopes.{aheadBy, behindBy, firstOne, admitsOne, extendOne, Encloses, KeepsSince, Exact, Extends}
 
 -- the bounds of the error by sums, where d and s have passed since t and c
 slow-iff : (e g d s t c : ℕ) → (d * e ≤ (s + 1) * g) ↔ ((t + d) * e + c * g ≤ t * e + (c + s) * g + g)
@@ -27,9 +27,10 @@ module _ (rate grain : ℕ) where
   keeps-since : (q : Point) (time shown : ℕ) → Keeps rate grain time shown ↔ Both (record { time = q .time + time; shown = q .shown + shown }) q
   keeps-since q time shown =
       let slow = slow-iff (million - rate) (million * grain) time shown (q .time) (q .shown) in
-      let fast = fast-iff (million + rate) (million * grain) time shown (q .time) (q .shown) in
-      ((λ h. (le-leb _ _ (slow .0 (omega (arith, h .slow))), le-leb _ _ (fast .0 (omega (arith, h .fast))))),
-       (λ h. record { slow = omega (arith, slow .1 (leb-true _ _ (h .0))); fast = omega (arith, fast .1 (leb-true _ _ (h .1))) }))
+      let fast = fast-iff (million + rate) (million * grain) time shown (q .time) (q .shown) in (
+        (λ h. (le-leb _ _ (slow .0 (omega (arith, h .slow))), le-leb _ _ (fast .0 (omega (arith, h .fast))))),
+        (λ h. record { slow = omega (arith, slow .1 (leb-true _ _ (h .0))); fast = omega (arith, fast .1 (leb-true _ _ (h .1))) }),
+      )
 
   keeps-iff : (p q : Point) → q .time ≤ p .time → q .shown ≤ p .shown → Keeps rate grain (p .time - q .time) (p .shown - q .shown) ↔ Both p q
   keeps-iff p q a b =
@@ -45,23 +46,25 @@ module _ (rate grain : ℕ) where
   ahead-through slack p q r h k =
       le-leb _ _
       (through (p .time * (million - rate)) (p .shown * (million * grain)) (q .time * (million - rate)) (q .shown * (million * grain)) (r .time * (million - rate)) (r .shown * (million * grain))
-       slack (leb-true _ _ h) (leb-true _ _ k))
+      slack (leb-true _ _ h) (leb-true _ _ k))
 
   behind-through : (slack : ℕ) (p q r : Point) → behindBy rate grain slack p q ≡ true → behindBy rate grain 0 q r ≡ true → behindBy rate grain slack p r ≡ true
   behind-through slack p q r h k =
       le-leb _ _
       (through (p .shown * (million * grain)) (p .time * (million + rate)) (q .shown * (million * grain)) (q .time * (million + rate)) (r .shown * (million * grain)) (r .time * (million + rate))
-       slack (leb-true _ _ h) (leb-true _ _ k))
+      slack (leb-true _ _ h) (leb-true _ _ k))
 
   pub exact : (e : Envelope) (p : Point) → Exact rate grain e p (admitsOne rate grain e p)
   exact e p past of later = (to, from)
     where
       both : (q : Point) → List·Memᴰ q past → Keeps rate grain (p .time - q .time) (p .shown - q .shown) ↔ Both p q
       both q m = keeps-iff p q (later q m .0) (later q m .1)
+
       to : admitsOne rate grain e p ≡ true → KeepsSince rate grain past p
       to h q m =
           let a = and-parts _ _ h in
           both q m .1 (ahead-through (million * grain) p (e .ahead) q (a .0) (of .ahead q m), behind-through (million * grain) p (e .behind) q (a .1) (of .behind q m))
+
       from : KeepsSince rate grain past p → admitsOne rate grain e p ≡ true
       from h =
           and-from _ _ (both (e .ahead) (of .aheadAt) .0 (h (e .ahead) (of .aheadAt)) .0)
@@ -84,7 +87,8 @@ module _ (rate grain : ℕ) where
         aheadAt = List·Memᴰ·head refl;
         behindAt = List·Memᴰ·head refl;
         ahead = of-all (λ q. aheadBy rate grain 0 p q ≡ true) p [] (ahead-same p) (λ q m. elim m [ ]);
-        behind = of-all (λ q. behindBy rate grain 0 p q ≡ true) p [] (behind-same p) (λ q m. elim m [ ]) }
+        behind = of-all (λ q. behindBy rate grain 0 p q ≡ true) p [] (behind-same p) (λ q m. elim m [ ]);
+      }
 
   pub extends : (e : Envelope) (p : Point) → Extends rate grain e p (extendOne rate grain e p)
   extends e p past of =
@@ -92,13 +96,14 @@ module _ (rate grain : ℕ) where
         aheadAt = cond-both _ p (e .ahead) (λ x. List·Memᴰ x (p ∷ past)) (λ t. List·Memᴰ·head refl) (λ t. List·Memᴰ·tail (of .aheadAt));
         behindAt = cond-both _ p (e .behind) (λ x. List·Memᴰ x (p ∷ past)) (λ t. List·Memᴰ·head refl) (λ t. List·Memᴰ·tail (of .behindAt));
         ahead =
-          cond-both _ p (e .ahead) (λ x. (q : Point) → List·Memᴰ q (p ∷ past) → aheadBy rate grain 0 x q ≡ true)
-          (λ t. of-all (λ q. aheadBy rate grain 0 p q ≡ true) p past (ahead-same p) (λ q m. ahead-through 0 p (e .ahead) q t (of .ahead q m)))
-          (λ t. of-all (λ q. aheadBy rate grain 0 (e .ahead) q ≡ true) p past (le-leb _ _ (omega (arith, leb-false _ _ t))) (of .ahead));
+            cond-both _ p (e .ahead) (λ x. (q : Point) → List·Memᴰ q (p ∷ past) → aheadBy rate grain 0 x q ≡ true)
+            (λ t. of-all (λ q. aheadBy rate grain 0 p q ≡ true) p past (ahead-same p) (λ q m. ahead-through 0 p (e .ahead) q t (of .ahead q m)))
+            (λ t. of-all (λ q. aheadBy rate grain 0 (e .ahead) q ≡ true) p past (le-leb _ _ (omega (arith, leb-false _ _ t))) (of .ahead));
         behind =
-          cond-both _ p (e .behind) (λ x. (q : Point) → List·Memᴰ q (p ∷ past) → behindBy rate grain 0 x q ≡ true)
-          (λ t. of-all (λ q. behindBy rate grain 0 p q ≡ true) p past (behind-same p) (λ q m. behind-through 0 p (e .behind) q t (of .behind q m)))
-          (λ t. of-all (λ q. behindBy rate grain 0 (e .behind) q ≡ true) p past (le-leb _ _ (omega (arith, leb-false _ _ t))) (of .behind)) }
+            cond-both _ p (e .behind) (λ x. (q : Point) → List·Memᴰ q (p ∷ past) → behindBy rate grain 0 x q ≡ true)
+            (λ t. of-all (λ q. behindBy rate grain 0 p q ≡ true) p past (behind-same p) (λ q m. behind-through 0 p (e .behind) q t (of .behind q m)))
+            (λ t. of-all (λ q. behindBy rate grain 0 (e .behind) q ≡ true) p past (le-leb _ _ (omega (arith, leb-false _ _ t))) (of .behind));
+      }
 
   -- the same of a value that is known to be the definition's
   pub exact-of : (e : Envelope) (p : Point) (r : Bool) → r ≡ admitsOne rate grain e p → Exact rate grain e p r

@@ -1,2 +1,3 @@
 pub mod Safe
 pub mod Enclosing
+pub mod Standing

@@ -15,8 +15,8 @@ shortReach rate short = (short + 1) * (million + rate) + 2 * million
 abbrev pub longReach : (rate long : ℕ) → ℕ
 longReach rate long = (long - 1) * (million - rate)
 
--- terms that fit together: the clocks are fair, a lease is not empty and at most an hour long,
--- and it ends for the borrower before it ends for the keeper, by any two clocks within the error
+-- terms that fit together: clocks run off by at most one in a hundred, a lease runs for at least a millisecond for the borrower
+-- and for at most an hour for the keeper, and it ends for the borrower before it ends for the keeper, by any two clocks within the error
 abbrev pub Fits : (rate short long : ℕ) → Type 0
 Fits rate short long = (rate ≤ 10000) × (1 ≤ short) × (long ≤ 3600000) × (shortReach rate short ≤ longReach rate long)
 
@@ -24,9 +24,9 @@ Fits rate short long = (rate ≤ 10000) × (1 ≤ short) × (long ≤ 3600000) �
 abbrev pub verdict : (rate short long : ℕ) → Option Unfit
 verdict rate short long =
     cond (ltb 10000 rate) (Some RateTooHigh)
-      (cond (ltb short 1) (Some ShortTooShort)
-        (cond (ltb 3600000 long) (Some LongTooLong)
-          (cond (leb (shortReach rate short) (longReach rate long)) None (Some TooClose))))
+    (cond (ltb short 1) (Some ShortTooShort)
+    (cond (ltb 3600000 long) (Some LongTooLong)
+    (cond (leb (shortReach rate short) (longReach rate long)) None (Some TooClose))))
 
 -- where a borrower's clock has gone on by less than short, the keeper's has gone on by less than long
 abbrev pub Covers : (short long : ℕ) (o n : Moment) → Type 0

@@ -1,7 +1,6 @@
 // Whether a clock keeps within its error against all its earlier readings, by two of them.
-ghost use Prim.Native.Nat.{ℕ, _+_, _*_, _-_, _<_, _≤_, _^_};
+ghost use Prim.Native.Nat.{ℕ, _*_, _<_, _^_};
 ghost use Rattle.clock.specs.Envelopes.{Encloses, Exact, Extends, admitsOne, aheadBy, behindBy, extendOne, firstOne};
-ghost use Rattle.clock.specs.Moments.{million};
 ghost use mathlib.Core.List.{[], _∷_};
 ghost use mathlib.Core.Path.{_≡_};
 use crate::terms::Terms;
@@ -26,7 +25,10 @@ impl Envelope {
         ensures is { λ r. ⌜ r ≡ firstOne p ⌝ }
         ensures encloses { λ r. ⌜ ((rate grain : ℕ) → Encloses rate grain (p ∷ []) r) ⌝ }
     {
-        Envelope { ahead: p, behind: p }
+        Envelope {
+            ahead: p,
+            behind: p,
+        }
     }
 
     /// Whether a clock that shows this next has kept within its error since every earlier reading.
@@ -43,25 +45,37 @@ impl Envelope {
         ensures extends { λ r. ⌜ Extends (now (terms .entry) .rate) 1 (now (self .entry)) p r ⌝ }
     {
         Envelope {
-            ahead: if ahead_by(terms, 0, p, self.ahead) { p } else { self.ahead },
-            behind: if behind_by(terms, 0, p, self.behind) { p } else { self.behind },
+            ahead: if ahead_by(terms, 0, p, self.ahead) {
+                p
+            } else {
+                self.ahead
+            },
+            behind: if behind_by(terms, 0, p, self.behind) {
+                p
+            } else {
+                self.behind
+            },
         }
     }
 }
 
-/// Both sides are sums of products, so that nothing goes below zero.
+/// Whether the clock is as far ahead at `p` as at `q`, or less so by at most the slack, in millionths of a millisecond.
+/// Both sides are sums, so that nothing goes below zero.
 fn ahead_by(terms: &Terms, slack: u64, p: Point, q: Point) -> bool
     ensures { λ r. ⌜ r ≡ aheadBy (now (terms .entry) .rate) 1 slack p q ⌝ }
 {
     let slowest = 1_000_000 - terms.rate;
-    times(p.time, slowest) + times(q.shown, 1_000_000) <= times(q.time, slowest) + times(p.shown, 1_000_000) + slack as u128
+    times(p.time, slowest) + times(q.shown, 1_000_000)
+        <= times(q.time, slowest) + times(p.shown, 1_000_000) + slack as u128
 }
 
+/// The same of how far it is behind.
 fn behind_by(terms: &Terms, slack: u64, p: Point, q: Point) -> bool
     ensures { λ r. ⌜ r ≡ behindBy (now (terms .entry) .rate) 1 slack p q ⌝ }
 {
     let fastest = 1_000_000 + terms.rate;
-    times(p.shown, 1_000_000) + times(q.time, fastest) <= times(q.shown, 1_000_000) + times(p.time, fastest) + slack as u128
+    times(p.shown, 1_000_000) + times(q.time, fastest)
+        <= times(q.shown, 1_000_000) + times(p.time, fastest) + slack as u128
 }
 
 /// A reading times a small number, with room left for sums.

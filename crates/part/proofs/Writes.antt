@@ -1,18 +1,18 @@
 -- What writes at a place leave: of some bytes, and of the parts of the files.
 -- Assumes nothing.
 use mathlib.Core.Path.{_≡_, refl, sym, ap, _∙_, fun-ext}
-use mathlib.Core.Bool.{cond}
+use mathlib.Core.Bool.{Bool, cond}
 use mathlib.Core.List.{List, [], _∷_, _++_}
 use mathlib.Core.Logic.{inl, inr}
 use Prim.Native.Nat.{ℕ, _+_, _-_, _*_, _<_, _≤_}
 use native.Mathlib.Numerals.{add-one}
 use native.Mathlib.Omega.{arith}
-use lib.Dec.{eqb}
+use lib.Dec.{eqb, leb}
 use lib.ListN.{length, take, drop, set}
 use borrow.Rule.Slice.PartMut.{putMid}
 use Rattle.std.proofs.shelf.Lists.{length-take-le, length-drop, drop-append-le, take-append-le, take-take, drop-at, take-at, drop-drop, set-split, append-assoc}
 use Rattle.std.proofs.shelf.Parts.{between-is, drop-putMid}
-use Rattle.std.proofs.shelf.Tests.{cases-order, eq-eqb, ne-eqb, cond-true, cond-false}
+use Rattle.std.proofs.shelf.Tests.{cases-order, eq-eqb, ne-eqb, cond-true, cond-false, le-leb}
 use Rattle.part.specs.Bytes.{placed}
 use Rattle.part.specs.Parts.{part-of, at-1}
 
@@ -65,3 +65,7 @@ module _ (xs ys : List ℕ) (k q : ℕ) (ke : k ≡ 1024) (fits : 1024 * q + 102
 
   pub part-put : part-of (putMid (1024 * q) k xs ys) ≡ at-1 q ys (part-of xs)
   part-put = fun-ext part-at
+
+-- a write that has room is done
+pub there : {X : Type 0} (r : Bool) (m n : ℕ) (y a b : X) → r ≡ leb m n → m ≤ n → y ≡ cond r a b → y ≡ a
+there r m n y a b e l h = h ∙ cond-true r a b (e ∙ le-leb m n l)

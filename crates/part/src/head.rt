@@ -4,7 +4,7 @@ ghost use mathlib.Core.List.{[], _∷_, _++_};
 ghost use lib.Dec.{leb};
 ghost use lib.ListN.{length, drop};
 ghost use Rattle.std.specs.Options.{Cases as BySome};
-ghost use Rattle.part.specs.Bytes.{headed};
+ghost use Rattle.part.specs.Bytes.{headed, Named};
 ghost use Rattle.part.specs.Heads.{Heads, NoHead};
 use crate::number::number_at;
 use crate::place::Place;
@@ -40,6 +40,7 @@ impl Head {
 
     /// Writes a first byte and the head at the front; false, and nothing is written, where there is no room.
     pub fn put(self, first: u8, out: &mut [u8]) -> bool
+        ensures named { λ _. ⌜ Named (self .who .id) (self .place .at) (self .number) ⌝ }
         ensures fits { λ r. ⌜ r ≡ leb 8 (length (now (out .entry))) ⌝ }
         ensures after { λ r. ⌜ now (out .exit) ≡ cond r ((first ∷ headed (self .who .id) (self .place .at) (self .number) []) ++ drop 8 (now (out .entry))) (now (out .entry)) ⌝ }
     {

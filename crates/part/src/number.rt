@@ -19,6 +19,7 @@ pub fn number_at(bytes: &[u8], at: usize) -> Option<u32>
 
 /// Writes the four bytes of a number at a place, high byte first; false, and nothing is written, where there is no room.
 pub fn put_number(out: &mut [u8], at: usize, number: u32) -> bool
+    ensures small { λ _. ⌜ number < 4294967296 ⌝ }
     ensures fits { λ r. ⌜ r ≡ leb (at + 4) (length (now (out .entry))) ⌝ }
     ensures after { λ r. ⌜ now (out .exit) ≡ cond r (placed at (four number) (now (out .entry))) (now (out .entry)) ⌝ }
 {

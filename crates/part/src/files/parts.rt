@@ -1,4 +1,5 @@
 ghost use mathlib.Core.Path.{_≡_};
+ghost use Prim.Native.Nat.{_*_};
 ghost use lib.ListN.{length};
 ghost use Rattle.std.specs.Vec.{made};
 ghost use Rattle.part.specs.Parts.{part-of, parts, at-1, blank};
@@ -15,12 +16,19 @@ fn overwrite(part: &mut [u8], bytes: &[u8; 1024])
     part.copy_from_slice(bytes);
 }
 
+// Where the bytes of a part begin.
+fn start(place: Place) -> usize
+    ensures { λ r. ⌜ r ≡ 1024 * place .at ⌝ }
+{
+    1024 * place.at as usize
+}
+
 // Hands the part's place in the lent files on to be written.
 fn put(files: &mut [u8], place: Place, bytes: &[u8; 1024])
     requires { ⌜ length (now files) ≡ 16777216 ⌝ }
     ensures { λ _. ⌜ part-of (now (files .exit)) ≡ at-1 (place .at) (now (bytes .entry)) (part-of (now (files .entry))) ⌝ }
 {
-    let a = 1024 * place.at as usize;
+    let a = start(place);
     overwrite(&mut files[a..a + 1024], bytes);
 }
 
@@ -30,7 +38,7 @@ fn get(files: &[u8], place: Place) -> &[u8]
     ensures is { λ r. ⌜ now r ≡ part-of (now (files .entry)) (place .at) ⌝ }
     ensures len { λ r. ⌜ length (now r) ≡ 1024 ⌝ }
 {
-    let a = 1024 * place.at as usize;
+    let a = start(place);
     &files[a..a + 1024]
 }
 

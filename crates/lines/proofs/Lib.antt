@@ -1,0 +1,4 @@
+pub mod Numerals
+pub mod HexTexts
+pub mod Splits
+pub mod Prints

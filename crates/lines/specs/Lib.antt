@@ -1,0 +1,4 @@
+pub mod Decimals
+pub mod Hex
+pub mod Words
+pub mod Outputs

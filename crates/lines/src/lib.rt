@@ -1,0 +1,5 @@
+// The text layer of the programs: what their lines say, and the bytes that they print.
+pub mod decimal;
+pub mod hex;
+pub mod words;
+pub mod output;

@@ -1,0 +1,4 @@
+pub mod Kinds
+pub mod Refusals
+pub mod Format
+pub mod Laws
