@@ -4,13 +4,12 @@ use mathlib.Core.Path.{_≡_, refl, sym, ap, _∙_}
 use mathlib.Core.Bool.{Bool, true, false, cond}
 use mathlib.Core.List.{List, [], _∷_, _++_}
 use Prim.Native.Nat.{ℕ, zero, suc, _+_, _-_, _<_, _≤_}
-use native.Mathlib.Numerals.{add-one}
 use native.Mathlib.Omega.{arith}
 use lib.Dec.{eqb}
 use lib.ListN.{length, getD, take, drop}
 use Rattle.std.specs.declared.option.Option.{Option}
 use Rattle.std.specs.declared.option.Option.the-variants.{Some, None}
-use Rattle.std.proofs.shelf.Lists.{at-drop-more, at-drop-all}
+use Rattle.std.proofs.shelf.Lists.{at-drop-more, at-drop-all, take-rest, take-all, take-append-drop, length-append, length-take-le}
 use Rattle.std.proofs.shelf.Tests.{cond-both, cond-true, cond-false, eq-eqb, ne-eqb}
 use Rattle.lines.specs.Words.{before, behind, words, words-left, in-front}
 
@@ -66,3 +65,40 @@ words-split (b ∷ bs) =
     let P : Bool → Type 0 = λ t. cond t ([] ∷ words bs) (in-front b (words bs))
         ≡ cond t [] (b ∷ before 32 bs) ∷ words-left (cond t (Some bs) (behind 32 bs)) in
     elim (eqb b 32) as P [ true ↦ refl | false ↦ ap (in-front b) (words-split bs) ]
+
+pub words-by : (text w : List ℕ) (o : Option (List ℕ)) → w ≡ before 32 text → o ≡ behind 32 text → words text ≡ w ∷ words-left o
+words-by text w o e f =
+    words-split text ∙ ap (λ (q : List ℕ). q ∷ words-left (behind 32 text)) (sym e) ∙ ap (λ (p : Option (List ℕ)). w ∷ words-left p) (sym f)
+
+-- the slices before and behind a mark at k
+pub slice-before : (m k : ℕ) (text : List ℕ) → k ≡ length (before m text) → take (k - 0) text ≡ before m text
+slice-before m k text e =
+    let z : k - 0 ≡ length (before m text) = omega arith in
+    ap (λ (n : ℕ). take n text) z ∙ before-is m text
+
+pub slice-behind : (m k : ℕ) (text : List ℕ) → k ≡ length (before m text) → k < length text
+    → Some (take (length text - (k + 1)) (drop (k + 1) text)) ≡ behind m text
+slice-behind m k text e h =
+    ap (λ (q : List ℕ). Some q) (take-rest text (k + 1)) ∙ ap (λ (n : ℕ). Some (drop (n + 1) text)) e ∙ behind-some m text (omega arith)
+
+pub all-before : (m : ℕ) (text : List ℕ) → length text ≤ length (before m text) → text ≡ before m text
+all-before m text h = sym (take-all (length (before m text)) text h) ∙ before-is m text
+
+-- bytes without a mark stand before what follows
+pub before-clean : (m : ℕ) (xs ys : List ℕ) → behind m xs ≡ None → before m (xs ++ ys) ≡ xs ++ before m ys
+before-clean m [] ys h = refl
+before-clean m (b ∷ bs) ys h =
+    let P : Bool → Type 0 = λ t. cond t (Some bs) (behind m bs) ≡ None → cond t [] (b ∷ before m (bs ++ ys)) ≡ b ∷ (bs ++ before m ys) in
+    (elim (eqb b m) as P [
+        true ↦ λ e. cc
+      | false ↦ λ e. ap (λ (q : List ℕ). b ∷ q) (before-clean m bs ys e) ]) h
+
+-- the end of the first line, where the search begins behind bytes without a mark
+pub end-clean : (m seen k : ℕ) (text : List ℕ) → seen ≤ length text → behind m (take seen text) ≡ None
+    → k ≡ length (before m (take (length text - seen) (drop seen text))) → seen + k ≡ length (before m text)
+end-clean m seen k text h clean e =
+    let whole : before m text ≡ take seen text ++ before m (drop seen text) =
+        ap (before m) (sym (take-append-drop seen text)) ∙ before-clean m (take seen text) (drop seen text) clean in
+    let long = ap length whole ∙ length-append (take seen text) (before m (drop seen text)) in
+    let k-is : k ≡ length (before m (drop seen text)) = e ∙ ap (λ (q : List ℕ). length (before m q)) (take-rest text seen) in
+    omega (arith, long, length-take-le seen text h)

@@ -2,3 +2,4 @@ pub mod Decimals
 pub mod Hex
 pub mod Words
 pub mod Outputs
+pub mod Inputs

@@ -3,3 +3,4 @@ pub mod decimal;
 pub mod hex;
 pub mod words;
 pub mod output;
+pub mod input;

@@ -1,5 +1,6 @@
 ghost use mathlib.Core.Path.{_≡_};
 ghost use mathlib.Core.List.{_∷_};
+ghost use Prim.Native.Nat.{_≤_};
 ghost use lib.ListN.{length};
 ghost use Rattle.std.specs.Options.{mapped};
 ghost use Rattle.lines.specs.Words.{before, behind, words, words-left};
@@ -8,7 +9,8 @@ const SPACE: u8 = b' ';
 
 /// Where the first mark stands in a text, or the text's length where there is none.
 pub fn find(text: &[u8], mark: u8) -> usize
-    ensures { λ r. ⌜ r ≡ length (before mark (now (text .entry))) ⌝ }
+    ensures at { λ r. ⌜ r ≡ length (before mark (now (text .entry))) ⌝ }
+    ensures within { λ r. ⌜ r ≤ length (now (text .entry)) ⌝ }
 {
     for i in 0..text.len() {
         if text[i] == mark {

@@ -1,3 +1,4 @@
 pub mod Bodies
 pub mod Writes
 pub mod Unique
+pub mod Reading

@@ -18,29 +18,8 @@ use Rattle.message.specs.declared.form.Message.{Message}
 use Rattle.message.specs.declared.form.Message.the-variants as code
 use Rattle.message.specs.Kinds.{kind-byte}
 use Rattle.message.specs.Format.{Msg, Ask, Loan, Write, In, Void, Recall, Back, said, carried, tag, body, layout, WellFormed, size-of, Decoded}
+use Rattle.message.specs.Reading.{kind, guess}
 use Rattle.message.specs.Laws.{Gave, Refused, Distinct, Exact, CutRefused}
-
-abbrev number : ℕ → List ℕ → ℕ
-number i xs = getD xs i 0 * 16777216 + getD xs (i + 1) 0 * 65536 + getD xs (i + 2) 0 * 256 + getD xs (i + 3) 0
-
-abbrev kind : ℕ → Kind
-kind b = cond (eqb b 0) Reading Writing
-
-abbrev place : List ℕ → ℕ
-place xs = getD xs 2 0 * 256 + getD xs 3 0
-
-abbrev parse : List ℕ → Msg
-parse xs =
-    let t = getD xs 0 0 in
-    let w = getD xs 1 0 in
-    let q = place xs in
-    let n = number 4 xs in
-    cond (eqb t 1) (Ask w q n (kind (getD xs 8 0)) (number 9 xs))
-    (cond (eqb t 2) (Loan w q n (kind (getD xs 8 0)) (drop 9 xs))
-    (cond (eqb t 3) (Write w q n (drop 8 xs))
-    (cond (eqb t 4) (In w q n)
-    (cond (eqb t 5) (Void w q n)
-    (cond (eqb t 6) (Recall w q) (Back w q n))))))
 
 kind-back : (k : Kind) → kind (kind-byte k) ≡ k
 kind-back Reading = refl
@@ -49,7 +28,7 @@ kind-back Writing = refl
 place-back : (q : ℕ) → q / 256 * 256 + q % 256 ≡ q
 place-back q = omega arith
 
-back : (m : Msg) → WellFormed m → parse (layout m) ≡ m
+pub back : (m : Msg) → WellFormed m → guess (layout m) ≡ m
 back (Ask w q n k l) f = let e = kind-back k in let g = number-back n (f .0 .2) in let h = number-back l (f .1) in let p = place-back q in cc
 back (Loan w q n k v) f = let e = kind-back k in let g = number-back n (f .0 .2) in let p = place-back q in cc
 back (Write w q n v) f = let g = number-back n (f .0 .2) in let p = place-back q in cc
@@ -62,7 +41,7 @@ back (Back w q n) f = let g = number-back n (f .2) in let p = place-back q in cc
 abbrev size-by : ℕ → ℕ
 size-by t = cond (eqb t 1) 13 (cond (eqb t 2) 1033 (cond (eqb t 3) 1032 (cond (eqb t 6) 4 8)))
 
-long : (m : Msg) → WellFormed m → length (layout m) ≡ size-by (tag m)
+pub long : (m : Msg) → WellFormed m → length (layout m) ≡ size-by (tag m)
 long (Ask w q n k l) f = refl
 long (Loan w q n k v) f = omega arith
 long (Write w q n v) f = omega arith
@@ -91,19 +70,23 @@ most (code.Recall w p) = lit≤ tt
 most (code.Back h) = lit≤ tt
 
 pub distinct : Distinct
-distinct m n f g e = sym (back m f) ∙ ap parse e ∙ back n g
+distinct m n f g e = sym (back m f) ∙ ap guess e ∙ back n g
 
 pub exact : Exact
 exact m f (Ok x) (g, e) = distinct (said (carried (layout m)) x) m g f e
 exact m f (Err x) none = none m f refl
 
-pub cut : CutRefused
-cut m f n l (Ok x) (g, e) =
-    let a = long (said (carried (take n (layout m))) x) g in
+-- a proper first part of a message is no message
+pub cut-short : (m : Msg) → WellFormed m → (n : ℕ) → n < length (layout m) → (k : Msg) → WellFormed k → layout k ≡ take n (layout m) → ⊥
+cut-short m f n l k g e =
+    let a = long k g in
     let b = long m f in
-    let d : length (layout (said (carried (take n (layout m))) x)) ≤ n = omega (arith, ap length e, length-take n (layout m)) in
+    let d : length (layout k) ≤ n = omega (arith, ap length e, length-take n (layout m)) in
     let pos : 0 < n = omega arith in
-    let t : tag (said (carried (take n (layout m))) x) ≡ tag m = ap (λ (q : List ℕ). getD q 0 0) e ∙ getD-take n (layout m) 0 0 pos in
-    let s : size-by (tag (said (carried (take n (layout m))) x)) ≡ size-by (tag m) = ap size-by t in
+    let t : tag k ≡ tag m = ap (λ (q : List ℕ). getD q 0 0) e ∙ getD-take n (layout m) 0 0 pos in
+    let s : size-by (tag k) ≡ size-by (tag m) = ap size-by t in
     omega arith
+
+pub cut : CutRefused
+cut m f n l (Ok x) (g, e) = cut-short m f n l (said (carried (take n (layout m))) x) g e
 cut m f n l (Err x) none = tt

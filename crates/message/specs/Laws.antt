@@ -8,7 +8,9 @@ use Rattle.std.specs.declared.result.Result.{Result}
 use Rattle.std.specs.declared.result.Result.the-variants.{Ok, Err}
 use Rattle.message.specs.declared.form.Malformed.{Malformed}
 use Rattle.message.specs.declared.form.Message.{Message}
+use Rattle.std.specs.declared.option.Option.the-variants.{Some, None}
 use Rattle.message.specs.Format.{Msg, said, carried, WellFormed, layout, Decoded}
+use Rattle.message.specs.Reading.{read}
 
 -- the reader gave this message, of these bytes
 abbrev pub Gave : List ℕ → Result Message Malformed → Msg → Type 0
@@ -31,3 +33,10 @@ Exact = (m : Msg) → WellFormed m → (r : Result Message Malformed) → Decode
 abbrev pub CutRefused : Type 0
 CutRefused = (m : Msg) → WellFormed m → (n : ℕ) → n < length (layout m)
     → (r : Result Message Malformed) → Decoded (take n (layout m)) r → Refused r
+
+-- `read` gives exactly the well-formed message that has these bytes, and no message of a proper first part of one
+abbrev pub ReadsExactly : Type 0
+ReadsExactly =
+    ((m : Msg) → WellFormed m → read (layout m) ≡ Some m) ×
+    ((xs : List ℕ) (m : Msg) → read xs ≡ Some m → WellFormed m × (layout m ≡ xs)) ×
+    ((m : Msg) → WellFormed m → (n : ℕ) → n < length (layout m) → read (take n (layout m)) ≡ None)

@@ -1,4 +1,5 @@
 pub mod Kinds
 pub mod Refusals
 pub mod Format
+pub mod Reading
 pub mod Laws

@@ -3,6 +3,7 @@ ghost use Prim.Native.Nat.{_<_};
 ghost use lib.ListN.{length};
 ghost use Rattle.std.specs.Options.{Cases as BySome};
 ghost use Rattle.message.specs.Format.{Decoded, DecodedBody, Only, NotOnly, carried};
+ghost use Rattle.message.specs.Reading.{heard, read};
 use crate::form::Malformed;
 use crate::form::Message;
 use crate::kind::Kind;
@@ -111,8 +112,7 @@ fn recall(body: &[u8]) -> Result<Message, Malformed>
     Ok(Message::Recall { who, place })
 }
 
-/// The message that the bytes are, or that they are none.
-pub fn decode(bytes: &[u8]) -> Result<Message, Malformed>
+fn parse(bytes: &[u8]) -> Result<Message, Malformed>
     ensures { λ r. ⌜ Decoded (now (bytes .entry)) r ⌝ }
 {
     let [first, body @ ..] = bytes else {
@@ -128,6 +128,14 @@ pub fn decode(bytes: &[u8]) -> Result<Message, Malformed>
         7 => back(body),
         0 | 8..=255 => Err(Malformed),
     }
+}
+
+/// The message that the bytes are, or that they are none.
+pub fn decode(bytes: &[u8]) -> Result<Message, Malformed>
+    ensures exact { λ r. ⌜ Decoded (now (bytes .entry)) r ⌝ }
+    ensures reads { λ r. ⌜ heard (now (bytes .entry)) r ≡ read (now (bytes .entry)) ⌝ }
+{
+    parse(bytes)
 }
 
 /// The part's bytes that a loan or a write carries: the last 1,024, where there are so many.

@@ -1,7 +1,5 @@
-ghost use Rattle.message.specs.Laws.{Distinct, Exact, CutRefused, Gave};
+ghost use Rattle.message.specs.Laws.{Distinct, Exact, CutRefused, Gave, ReadsExactly};
 ghost use Rattle.message.specs.Format.{said, layout};
-ghost use lib.ListN.{length};
-ghost use Prim.Native.Nat.{_≤_};
 use crate::decode::decode;
 use crate::encode::encode;
 use crate::form::Malformed;
@@ -24,6 +22,13 @@ pub fn reading_is_exact() -> u8
 /// Every proper first part of a message is refused.
 pub fn cut_is_refused() -> u8
     ensures { λ _. ⌜ CutRefused ⌝ }
+{
+    0
+}
+
+/// Reading, as a function of the bytes, gives exactly the well-formed message that has them.
+pub fn reads_exactly() -> u8
+    ensures { λ _. ⌜ ReadsExactly ⌝ }
 {
     0
 }

@@ -17,7 +17,7 @@ returns c =
     let m = said (c .args .part .now) (c .args .message .now) in
     let w = c .in-Some .ensures tt in
     let P : List ℕ → Type 0 = λ q. Decoded q (c .decode .result) in
-    exact m (w .formed refl) (c .decode .result) (subst P (front-is _ _ (layout m) _ (w .wrote .1) (w .wrote .0)) (c .decode .ensures))
+    exact m (w .formed refl) (c .decode .result) (subst P (front-is _ _ (layout m) _ (w .wrote .1) (w .wrote .0)) (c .decode .ensures .exact))
 
 pub returns-in-rest : need.returns-in-rest
 returns-in-rest c = omega (arith, c .in-rest .ensures tt .wrote .0, sized (c .args .part .now) (c .args .message .now) (c .told-part), most (c .args .message .now))

@@ -1,0 +1,3 @@
+// A borrower: what it keeps of each part, what each call and each message does to it, and a tablet of all parts.
+pub mod hold;
+pub mod steps;

@@ -1,0 +1,1 @@
+// The journals of the keeper and of the borrowers.
