@@ -1,0 +1,3 @@
+pub mod Leases
+pub mod Tables
+pub mod Exclusion
