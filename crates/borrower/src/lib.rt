@@ -1,3 +1,5 @@
 // A borrower: what it keeps of each part, what each call and each message does to it, and a tablet of all parts.
 pub mod hold;
 pub mod steps;
+pub mod outcome;
+pub mod tablet;

@@ -131,6 +131,13 @@ impl Part {
         }
     }
 
+    /// Lets go of the copy, if there is one.
+    pub fn forget(self) -> Part
+        ensures { λ r. ⌜ r ≡ released self ⌝ }
+    {
+        self.release()
+    }
+
     /// A loan comes.
     pub fn on_loan(self, number: u32, kind: Kind) -> (Part, Result<(), Refusal>)
         ensures { λ r. ⌜ r ≡ loan-of number kind self ⌝ }
