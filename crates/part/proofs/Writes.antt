@@ -69,3 +69,10 @@ module _ (xs ys : List ℕ) (k q : ℕ) (ke : k ≡ 1024) (fits : 1024 * q + 102
 -- a write that has room is done
 pub there : {X : Type 0} (r : Bool) (m n : ℕ) (y a b : X) → r ≡ leb m n → m ≤ n → y ≡ cond r a b → y ≡ a
 there r m n y a b e l h = h ∙ cond-true r a b (e ∙ le-leb m n l)
+
+-- a function with another value at one place, read there and elsewhere
+pub at-1-here : {X : Type 0} (q : ℕ) (v : X) (f : ℕ → X) → at-1 q v f q ≡ v
+at-1-here q v f = cond-true (eqb q q) v (f q) (eq-eqb q q refl)
+
+pub at-1-other : {X : Type 0} (q : ℕ) (v : X) (f : ℕ → X) (p : ℕ) → (p ≡ q → ⊥) → at-1 q v f p ≡ f p
+at-1-other q v f p ne = cond-false (eqb p q) v (f p) (ne-eqb p q ne)

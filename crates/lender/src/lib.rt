@@ -1,0 +1,4 @@
+// The keeper: the numbers of each part, the leases, the grace period, and what each message does to them and to the lent bytes of the parts.
+pub mod numbers;
+pub mod answer;
+pub mod lender;
