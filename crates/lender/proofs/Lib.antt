@@ -1,3 +1,4 @@
 pub mod Pairs
 pub mod Books
 pub mod Effects
+pub mod Kept

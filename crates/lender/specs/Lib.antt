@@ -4,3 +4,4 @@ pub mod Book
 pub mod Room
 pub mod Rules
 pub mod Replies
+pub mod Replay

@@ -2,3 +2,4 @@
 pub mod numbers;
 pub mod answer;
 pub mod lender;
+pub mod laws;
