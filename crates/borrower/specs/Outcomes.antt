@@ -5,25 +5,29 @@ use mathlib.Core.Bool.{Bool, true, false, not, cond, _&&_}
 use mathlib.Core.List.{List, [], _∷_}
 use Prim.Native.Nat.{ℕ}
 use lib.Dec.{eqb}
+use lib.ListN.{replicate}
 use Rattle.std.specs.declared.option.Option.{Option}
 use Rattle.std.specs.declared.option.Option.the-variants.{Some, None}
 use Rattle.std.specs.declared.result.Result.{Result}
 use Rattle.std.specs.declared.result.Result.the-variants.{Ok, Err}
-use Rattle.part.specs.Parts.{at-1}
+use Rattle.part.specs.Parts.{at-1, blank}
+use Rattle.part.specs.declared.who.Who.{Who}
 use Rattle.message.specs.declared.kind.Kind.{Kind}
 use Rattle.message.specs.declared.refusal.Refusal.{Refusal}
 use Rattle.message.specs.declared.refusal.Refusal.the-variants.{Malformed}
 use Rattle.message.specs.declared.form.Message.{Message}
 use Rattle.message.specs.Format.{Msg, Ask, Loan, Write, In, Void, Recall, Back, said}
 use Rattle.journal.specs.declared.record.Record.{Record}
-use Rattle.journal.specs.Records.{Rec, Numbers, recorded}
+use Rattle.journal.specs.Records.{Rec, Applied, VoidUpTo, Numbers, recorded}
 use Rattle.borrower.specs.declared.hold.Part.{Part}
 use Rattle.borrower.specs.declared.hold.OnFile.{OnFile}
 use Rattle.borrower.specs.declared.hold.Asked.{Asked}
 use Rattle.borrower.specs.declared.outcome.Outcome.{Outcome}
+use Rattle.borrower.specs.declared.outcome.Call.{Call}
+use Rattle.borrower.specs.declared.outcome.Call.the-variants as call
 use Rattle.borrower.specs.declared.tablet.Tablet.{Tablet}
-use Rattle.borrower.specs.Tablets.{part-at, filed-at, copy-at}
-use Rattle.borrower.specs.Steps.{released, settled, ask-of, showing, write-of, loan-of, recall-of, kept-of, passes, same-part}
+use Rattle.borrower.specs.Tablets.{part-at, filed-at, copy-at, no-part, no-numbers}
+use Rattle.borrower.specs.Steps.{released, settled, ask-of, showing, write-of, loan-of, recall-of, kept-of, passes, same-part, risen}
 
 -- what comes of a step, in numbers: at most one record, message and notice
 pub record Effect : Type 0 where
@@ -38,7 +42,7 @@ sent-by v (Some m) = said v m ∷ []
 
 abbrev pub recorded-by : Option Record → List Rec
 recorded-by None = []
-recorded-by (Some r) = recorded [] r ∷ []
+recorded-by (Some r) = recorded (replicate 1024 0) r ∷ []
 
 -- what an outcome of the code says, with the bytes v that stand beside a write
 abbrev pub effect : (v : List ℕ) → Outcome → Effect
@@ -104,6 +108,19 @@ asked-part c s p = ask-of c s (settled c s p) .0
 abbrev pub written-part : (clock short : ℕ) → Part → Part
 written-part c s p = write-of (settled c s p) .0
 
+-- any call, by its kind
+abbrev pub call-effect : (who place : ℕ) → (bytes : List ℕ) → (clock short : ℕ) → Call → Part → OnFile → Effect
+call-effect w q v c s (call.Ask k) p f = ask-effect w q k c s p f
+call-effect w q v c s call.Show p f = show-effect q c s p f
+call-effect w q v c s call.Write p f = write-effect w q v c s p f
+call-effect w q v c s call.Forget p f = forget-effect q p f
+
+abbrev pub call-part : (clock short : ℕ) → Call → Part → Part
+call-part c s (call.Ask k) p = asked-part c s p
+call-part c s call.Show p = settled c s p
+call-part c s call.Write p = written-part c s p
+call-part c s call.Forget p = released p
+
 -- MESSAGES to the borrower w. One that is none, is not for a borrower or names another is refused by 1
 abbrev pub turned-away : Effect
 turned-away = record { records = []; sends = []; tells = []; answer = Err Malformed }
@@ -166,3 +183,18 @@ heard-copies w (Some (Back i q n)) ps cs = cs
 abbrev pub Heard : (was is : Tablet) → Option Msg → Type 0
 Heard was is o =
     Left was is (heard-parts (was .who .id) o (part-at was)) (heard-filed (was .who .id) o (part-at was) (filed-at was)) (heard-copies (was .who .id) o (part-at was) (copy-at was))
+
+-- AT FIRST nothing was asked for, and there is no copy
+pub record Fresh (w : Who) (s : ℕ) (t : Tablet) : Type 0 where
+  pub parts : part-at t ≡ (λ q. no-part)
+  pub filed : filed-at t ≡ (λ q. no-numbers)
+  pub copies : copy-at t ≡ blank
+  pub short : t .short ≡ s
+  pub who : t .who ≡ w
+
+-- a record of the journal makes this of the tablet: the part is as after coming up
+abbrev pub Reread : (was : Tablet) → Rec → (is : Tablet) → Type 0
+Reread was (Numbers q a w) is =
+    Left was is (at-1 q (risen (record { ask = a; write = w })) (part-at was)) (at-1 q (record { ask = a; write = w }) (filed-at was)) (copy-at was)
+Reread was (Applied i q n v) is = is ≡ was
+Reread was (VoidUpTo i q n) is = is ≡ was

@@ -6,7 +6,9 @@ use part::files::Files;
 use part::who::Who;
 
 pub mod calls;
+pub mod logged;
 pub mod messages;
+pub mod open;
 pub mod store;
 
 /// A borrower with all its parts: what it keeps of each, the numbers that its journal has of each, and the bytes of its copies.

@@ -7,6 +7,8 @@ use Rattle.std.specs.Of.Vec.{vec-items}
 use Rattle.lease.specs.Tables.{leases}
 use Rattle.lender.specs.declared.numbers.Numbers.{Numbers}
 use Rattle.lender.specs.declared.lender.Lender.{Lender}
+use Rattle.part.specs.Parts.{parts}
+use Rattle.lender.specs.declared.keeper.Keeper.{Keeper}
 use Rattle.lender.specs.Numbering.{no-numbers}
 use Rattle.lender.specs.Rules.{Book}
 
@@ -19,3 +21,9 @@ void-of ns q i = getD (getD ns q no-numbers .voided) i 0
 abbrev pub book : Lender → Book
 book k =
     record { done = done-of (vec-items (k .numbers)); void = void-of (vec-items (k .numbers)); leases = leases (k .table); quiet = k .quiet; long = k .long }
+
+abbrev pub keeper-book : Keeper → Book
+keeper-book k = book (k .lender)
+
+abbrev pub keeper-parts : Keeper → ℕ → List ℕ
+keeper-parts k = parts (k .files)

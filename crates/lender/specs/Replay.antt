@@ -7,6 +7,8 @@ use Rattle.std.specs.declared.option.Option.{Option}
 use Rattle.message.specs.Format.{Msg}
 use Rattle.journal.specs.Records.{Rec, Applied, VoidUpTo, Numbers}
 use Rattle.part.specs.Parts.{at-1, blank}
+use Rattle.lender.specs.declared.keeper.Keeper.{Keeper}
+use Rattle.lender.specs.Book.{keeper-book, keeper-parts}
 use Rattle.lender.specs.Rules.{Book, at-2}
 use Rattle.lender.specs.Replies.{heard-effect, heard-book, heard-parts}
 
@@ -39,3 +41,10 @@ abbrev pub Kept : Type 0
 Kept =
     (c : ℕ) (o : Option Msg) (m : Book) (f : ℕ → List ℕ)
     → memory (heard-book c o m) (heard-parts c o m f) ≡ replay (heard-effect c o m f .records) (memory m f)
+
+-- a record makes this of the keeper: its memory is redone, its leases, grace period and terms are as they were
+pub record Redone (was : Keeper) (r : Rec) (is : Keeper) : Type 0 where
+  pub kept : memory (keeper-book is) (keeper-parts is) ≡ redo r (memory (keeper-book was) (keeper-parts was))
+  pub leases : keeper-book is .leases ≡ keeper-book was .leases
+  pub quiet : keeper-book is .quiet ≡ keeper-book was .quiet
+  pub long : keeper-book is .long ≡ keeper-book was .long

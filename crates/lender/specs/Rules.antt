@@ -130,3 +130,7 @@ given-back i q n m = record { done = m .done; void = m .void; leases = kept-by (
 -- COMING UP: no leases, and a grace period as long as a lease could run
 abbrev pub risen : (clock : ℕ) → Book → Book
 risen c m = record { done = m .done; void = m .void; leases = []; quiet = c + m .long; long = m .long }
+
+-- at first nothing is written, and there are no leases
+abbrev pub fresh : (long : ℕ) → Book
+fresh l = record { done = λ q i. 0; void = λ q i. 0; leases = []; quiet = 0; long = l }

@@ -3,6 +3,7 @@ ghost use Rattle.std.specs.Of.Vec.{vec-len};
 use crate::numbers::Numbers;
 use lease::table::Table;
 
+pub mod new;
 pub mod judge;
 pub mod steps;
 pub mod receive;

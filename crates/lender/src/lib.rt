@@ -2,4 +2,5 @@
 pub mod numbers;
 pub mod answer;
 pub mod lender;
+pub mod keeper;
 pub mod laws;

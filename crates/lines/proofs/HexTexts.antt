@@ -25,7 +25,7 @@ value-small b =
     let P : Option ℕ → Type 0 = λ o. valueOr o 0 < 16 in
     cond-both (leb 48 b && leb b 57) _ _ P (λ e. omega (arith, between-true 48 57 b e))
     (λ _. cond-both (leb 97 b && leb b 102) _ _ P (λ e. omega (arith, between-true 97 102 b e))
-      (λ _. cond-both (leb 65 b && leb b 70) _ _ P (λ e. omega (arith, between-true 65 70 b e)) (λ _. omega arith)))
+    (λ _. cond-both (leb 65 b && leb b 70) _ _ P (λ e. omega (arith, between-true 65 70 b e)) (λ _. omega arith)))
 
 -- one byte on
 pub all-hex-step : (o : Option ℕ) (t : Bool) (text : List ℕ) (i : ℕ) → i < length text → o ≡ hex-digit (getD text i 0) → isSome o ≡ t
@@ -62,12 +62,13 @@ front-step bytes out i v h k e =
 pub front-done : (bytes out : List ℕ) (n : ℕ) → n ≡ min (length out) (length bytes) → take n bytes ++ drop n out ≡ fronted bytes out
 front-done bytes out n e =
     elim (cases-lt (length out) (length bytes)) [
-      inl h ↦
-        let o : n ≡ length out = omega arith in
-        rw (o, drop-all (length out) out (omega arith), drop-all (length bytes) out (omega arith))
-    | inr h ↦
-        let o : n ≡ length bytes = omega arith in
-        rw (o, take-all (length bytes) bytes (omega arith), take-all (length out) bytes (omega arith)) ]
+      | inl h ↦
+          let o : n ≡ length out = omega arith in
+          rw (o, drop-all (length out) out (omega arith), drop-all (length bytes) out (omega arith))
+      | inr h ↦
+          let o : n ≡ length bytes = omega arith in
+          rw (o, take-all (length bytes) bytes (omega arith), take-all (length out) bytes (omega arith))
+    ]
 
 -- two more digits are appended
 pub text-step : (was mid out bytes : List ℕ) (i h l : ℕ) → i < length bytes → h ≡ hex-letter (getD bytes i 0 / 16)
@@ -85,14 +86,14 @@ letter-back : (v : ℕ) → v < 16 → hex-digit (hex-letter v) ≡ Some v
 letter-back v lt =
     cond-both (ltb v 10) (v + 48) (v + 87) (λ x. hex-digit x ≡ Some v)
     (λ e.
-      let s : v < 10 = ltb-true v 10 e in
-      let back : v + 48 - 48 ≡ v = omega arith in
-      cond-true (leb 48 (v + 48) && leb (v + 48) 57) _ _ (and-from _ _ (le-leb 48 (v + 48) (omega arith)) (le-leb (v + 48) 57 (omega arith))) ∙ ap (λ (n : ℕ). Some n) back)
+    let s : v < 10 = ltb-true v 10 e in
+    let back : v + 48 - 48 ≡ v = omega arith in
+    cond-true (leb 48 (v + 48) && leb (v + 48) 57) _ _ (and-from _ _ (le-leb 48 (v + 48) (omega arith)) (le-leb (v + 48) 57 (omega arith))) ∙ ap (λ (n : ℕ). Some n) back)
     (λ e.
-      let s : 10 ≤ v = ltb-false v 10 e in
-      let back : v + 87 - 87 ≡ v = omega arith in
-      cond-false (leb 48 (v + 87) && leb (v + 87) 57) _ _ (and-right _ _ (lt-leb (v + 87) 57 (omega arith)))
-      ∙ cond-true (leb 97 (v + 87) && leb (v + 87) 102) _ _ (and-from _ _ (le-leb 97 (v + 87) (omega arith)) (le-leb (v + 87) 102 (omega arith))) ∙ ap (λ (n : ℕ). Some n) back)
+    let s : 10 ≤ v = ltb-false v 10 e in
+    let back : v + 87 - 87 ≡ v = omega arith in
+    cond-false (leb 48 (v + 87) && leb (v + 87) 57) _ _ (and-right _ _ (lt-leb (v + 87) 57 (omega arith)))
+    ∙ cond-true (leb 97 (v + 87) && leb (v + 87) 102) _ _ (and-from _ _ (le-leb 97 (v + 87) (omega arith)) (le-leb (v + 87) 102 (omega arith))) ∙ ap (λ (n : ℕ). Some n) back)
 
 value-back : (v : ℕ) → v < 16 → hex-value (hex-letter v) ≡ v
 unfolding hex-value

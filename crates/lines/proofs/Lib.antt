@@ -3,3 +3,5 @@ pub mod HexTexts
 pub mod Splits
 pub mod Prints
 pub mod Handing
+pub mod Filling
+pub mod Bounds

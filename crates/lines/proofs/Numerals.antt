@@ -16,17 +16,13 @@ use Rattle.std.proofs.shelf.Decimals.{decimal-some, digits-decimal, value-decim
 use Rattle.std.proofs.shelf.Numerals.{Numerals, numerals-by-fold}
 use Rattle.std.proofs.shelf.Lists.{at-drop-more, nil-from-length}
 use Rattle.std.proofs.shelf.Tests.{cond-both, cond-true, cond-false, lt-ltb, le-ltb, ltb-true, ltb-false, and-left, and-right, and-parts, and-from, and-cases}
+use Rattle.lines.specs.Chains.{and-then}
 use Rattle.lines.specs.Decimals.{is-digit, all-digits, value-after, appended, is-number, digits-value, number-of}
-
--- goes on reading, where there is a number to go on from
-abbrev pub on : Option ℕ → (ℕ → Option ℕ) → Option ℕ
-on None f = None
-on (Some n) f = f n
 
 -- the number read from the digits after a number, digit by digit
 abbrev pub read-on : ℕ → List ℕ → Option ℕ
 read-on n [] = Some n
-read-on n (b ∷ bs) = on (appended n b) (λ m. read-on m bs)
+read-on n (b ∷ bs) = and-then (appended n b) (λ m. read-on m bs)
 
 grows : (n : ℕ) (bs : List ℕ) → n ≤ value-after n bs
 grows n [] = omega arith
@@ -43,12 +39,13 @@ pub read-is : (n : ℕ) (bs : List ℕ) → n < 2 ^ 64 → read-on n bs ≡ want
 read-is n [] l = sym (cond-true (fits n []) (Some n) None (lt-ltb n (2 ^ 64) l))
 read-is n (b ∷ bs) l =
     let m : ℕ = n * 10 + (b - 48) in
-    cond-both (is-digit b && ltb m (2 ^ 64)) (Some m) None (λ (o : Option ℕ). on o (λ k. read-on k bs) ≡ wanted n (b ∷ bs))
+    cond-both (is-digit b && ltb m (2 ^ 64)) (Some m) None (λ (o : Option ℕ). and-then o (λ k. read-on k bs) ≡ wanted n (b ∷ bs))
     (λ e. let p = and-parts (is-digit b) (ltb m (2 ^ 64)) e in
-      read-is m bs (ltb-true m (2 ^ 64) (p .1)) ∙ ap (λ (t : Bool). cond (t && all-digits bs && ltb (value-after m bs) (2 ^ 64)) (Some (value-after m bs)) None) (sym (p .0)))
+    read-is m bs (ltb-true m (2 ^ 64) (p .1)) ∙ ap (λ (t : Bool). cond (t && all-digits bs && ltb (value-after m bs) (2 ^ 64)) (Some (value-after m bs)) None) (sym (p .0)))
     (λ e. elim (and-cases (is-digit b) (ltb m (2 ^ 64)) e) [
-        inl h ↦ sym (cond-false (fits n (b ∷ bs)) _ None (and-left (all-digits (b ∷ bs)) _ (and-left (is-digit b) (all-digits bs) h)))
-      | inr h ↦ sym (cond-false (fits n (b ∷ bs)) _ None (and-right (all-digits (b ∷ bs)) _ (le-ltb _ _ (omega (arith, ltb-false m (2 ^ 64) h, grows m bs))))) ])
+      | inl h ↦ sym (cond-false (fits n (b ∷ bs)) _ None (and-left (all-digits (b ∷ bs)) _ (and-left (is-digit b) (all-digits bs) h)))
+      | inr h ↦ sym (cond-false (fits n (b ∷ bs)) _ None (and-right (all-digits (b ∷ bs)) _ (le-ltb _ _ (omega (arith, ltb-false m (2 ^ 64) h, grows m bs)))))
+    ])
 
 -- reading a text from the start gives the number that it stands for
 pub read-number : (bs : List ℕ) → 0 < length bs → read-on 0 bs ≡ number-of bs
@@ -62,9 +59,9 @@ no-number bs h = ap number-of (nil-from-length bs h)
 
 -- one digit on
 pub read-step : (n : ℕ) (o : Option ℕ) (bs : List ℕ) (i : ℕ) → i < length bs → o ≡ appended n (getD bs i 0)
-    → on o (λ m. read-on m (drop (i + 1) bs)) ≡ read-on n (drop i bs)
+    → and-then o (λ m. read-on m (drop (i + 1) bs)) ≡ read-on n (drop i bs)
 read-step n o bs i h e =
-    ap (λ (p : Option ℕ). on p (λ m. read-on m (drop (i + 1) bs))) e ∙ sym (at-drop-more (read-on n) bs i 0 h)
+    ap (λ (p : Option ℕ). and-then p (λ m. read-on m (drop (i + 1) bs))) e ∙ sym (at-drop-more (read-on n) bs i 0 h)
 
 -- the digits and their value are those of std
 own : Numerals (λ (bs : List ℕ). all-digits bs ≡ true) (value-after 0)

@@ -32,7 +32,8 @@ spelled-start n digits lt size =
       room = length-decimal-le 20 n (omega arith) (omega arith) lt;
       inside = omega arith;
       size = size;
-      small = lt }
+      small = lt;
+    }
 
 -- some digit is left
 pub spelled-room : (n rest start : ℕ) (digits : List ℕ) → Spelled n rest start digits → 0 < start
@@ -52,13 +53,14 @@ spelled-step n rest start digits ge s =
     let long : length (decimal rest) ≡ length (decimal (rest / 10)) + 1 = ap length step ∙ length-append (decimal (rest / 10)) (d ∷ []) in
     record {
       text =
-        ap (λ (q : List ℕ). decimal (rest / 10) ++ q) (put-digit start d digits pos (omega (arith, s .size, s .inside)))
-        ∙ sym (append-assoc (decimal (rest / 10)) (d ∷ []) (drop start digits))
-        ∙ ap (λ (q : List ℕ). q ++ drop start digits) (sym step) ∙ s .text;
+          ap (λ (q : List ℕ). decimal (rest / 10) ++ q) (put-digit start d digits pos (omega (arith, s .size, s .inside)))
+          ∙ sym (append-assoc (decimal (rest / 10)) (d ∷ []) (drop start digits))
+          ∙ ap (λ (q : List ℕ). q ++ drop start digits) (sym step) ∙ s .text;
       room = omega (arith, s .room, long);
       inside = omega (arith, s .inside);
       size = length-set digits (start - 1) d ∙ s .size;
-      small = omega (arith, s .small) }
+      small = omega (arith, s .small);
+    }
 
 pub spelled-last : (n rest start : ℕ) (digits : List ℕ) → rest < 10 → Spelled n rest start digits
     → take (20 - (start - 1)) (drop (start - 1) (set digits (start - 1) (48 + rest))) ≡ decimal n

@@ -45,12 +45,13 @@ pub behind-some : (m : ℕ) (text : List ℕ) → length (before m text) < lengt
 behind-some m [] h = absurd (omega arith)
 behind-some m (b ∷ bs) h =
     let P : Bool → Type 0 = λ t. length (cond t [] (b ∷ before m bs)) < length (b ∷ bs)
-        → Some (drop (length (cond t [] (b ∷ before m bs)) + 1) (b ∷ bs)) ≡ cond t (Some bs) (behind m bs) in
+    → Some (drop (length (cond t [] (b ∷ before m bs)) + 1) (b ∷ bs)) ≡ cond t (Some bs) (behind m bs) in
     let k : ℕ = length (before m bs) in
     let e : suc k + 1 ≡ suc (k + 1) = omega arith in
     (elim (eqb b m) as P [
-        true ↦ λ l. refl
-      | false ↦ λ l. ap (λ (n : ℕ). Some (drop n (b ∷ bs))) e ∙ behind-some m bs (omega arith) ]) h
+      | true ↦ λ l. refl
+      | false ↦ λ l. ap (λ (n : ℕ). Some (drop n (b ∷ bs))) e ∙ behind-some m bs (omega arith)
+    ]) h
 
 pub behind-none : (m : ℕ) (text : List ℕ) → length text ≤ length (before m text) → None ≡ behind m text
 behind-none m [] h = refl
@@ -63,7 +64,7 @@ pub words-split : (text : List ℕ) → words text ≡ before 32 text ∷ words-
 words-split [] = refl
 words-split (b ∷ bs) =
     let P : Bool → Type 0 = λ t. cond t ([] ∷ words bs) (in-front b (words bs))
-        ≡ cond t [] (b ∷ before 32 bs) ∷ words-left (cond t (Some bs) (behind 32 bs)) in
+    ≡ cond t [] (b ∷ before 32 bs) ∷ words-left (cond t (Some bs) (behind 32 bs)) in
     elim (eqb b 32) as P [ true ↦ refl | false ↦ ap (in-front b) (words-split bs) ]
 
 pub words-by : (text w : List ℕ) (o : Option (List ℕ)) → w ≡ before 32 text → o ≡ behind 32 text → words text ≡ w ∷ words-left o
@@ -90,15 +91,16 @@ before-clean m [] ys h = refl
 before-clean m (b ∷ bs) ys h =
     let P : Bool → Type 0 = λ t. cond t (Some bs) (behind m bs) ≡ None → cond t [] (b ∷ before m (bs ++ ys)) ≡ b ∷ (bs ++ before m ys) in
     (elim (eqb b m) as P [
-        true ↦ λ e. cc
-      | false ↦ λ e. ap (λ (q : List ℕ). b ∷ q) (before-clean m bs ys e) ]) h
+      | true ↦ λ e. cc
+      | false ↦ λ e. ap (λ (q : List ℕ). b ∷ q) (before-clean m bs ys e)
+    ]) h
 
 -- the end of the first line, where the search begins behind bytes without a mark
 pub end-clean : (m seen k : ℕ) (text : List ℕ) → seen ≤ length text → behind m (take seen text) ≡ None
     → k ≡ length (before m (take (length text - seen) (drop seen text))) → seen + k ≡ length (before m text)
 end-clean m seen k text h clean e =
     let whole : before m text ≡ take seen text ++ before m (drop seen text) =
-        ap (before m) (sym (take-append-drop seen text)) ∙ before-clean m (take seen text) (drop seen text) clean in
+    ap (before m) (sym (take-append-drop seen text)) ∙ before-clean m (take seen text) (drop seen text) clean in
     let long = ap length whole ∙ length-append (take seen text) (before m (drop seen text)) in
     let k-is : k ≡ length (before m (drop seen text)) = e ∙ ap (λ (q : List ℕ). length (before m q)) (take-rest text seen) in
     omega (arith, long, length-take-le seen text h)

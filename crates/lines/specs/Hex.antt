@@ -14,7 +14,7 @@ abbrev pub hex-digit : ℕ → Option ℕ
 hex-digit b =
     cond (leb 48 b && leb b 57) (Some (b - 48))
     (cond (leb 97 b && leb b 102) (Some (b - 87))
-      (cond (leb 65 b && leb b 70) (Some (b - 55)) None))
+    (cond (leb 65 b && leb b 70) (Some (b - 55)) None))
 
 -- the value of a byte that is a digit
 unfoldable pub hex-value : ℕ → ℕ

@@ -1,5 +1,7 @@
+pub mod Chains
 pub mod Decimals
 pub mod Hex
 pub mod Words
 pub mod Outputs
 pub mod Inputs
+pub mod Scripts

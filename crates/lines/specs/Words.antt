@@ -4,7 +4,9 @@
 use mathlib.Core.Bool.{cond}
 use mathlib.Core.List.{List, [], _∷_}
 use Prim.Native.Nat.{ℕ}
+use denote.Ref.{RefT, now}
 use lib.Dec.{eqb}
+use Rattle.std.specs.Options.{mapped}
 use Rattle.std.specs.declared.option.Option.{Option}
 use Rattle.std.specs.declared.option.Option.the-variants.{Some, None}
 
@@ -32,3 +34,7 @@ words (b ∷ bs) = cond (eqb b 32) ([] ∷ words bs) (in-front b (words bs))
 abbrev pub words-left : Option (List ℕ) → List (List ℕ)
 words-left None = []
 words-left (Some text) = words text
+
+-- the words of what may be left of a line in memory
+abbrev pub rest-words : Option (RefT (List ℕ)) → List (List ℕ)
+rest-words rest = words-left (mapped (λ x. now x) rest)

@@ -38,5 +38,4 @@ pub fn number(word: &[u8]) -> Option<u64>
 /// What is printed of a number of 64 bits is read back as that number.
 pub fn decimal_is_read_back()
     ensures { λ _. ⌜ ((n : ℕ) → n < 2 ^ 64 → number-of (decimal n) ≡ Some n) ⌝ }
-{
-}
+{}

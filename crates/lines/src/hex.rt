@@ -98,5 +98,4 @@ pub fn push_hex(out: &mut Vec<u8>, bytes: &[u8]) -> Result<(), AllocError>
 pub fn hex_is_read_back()
     ensures text { λ _. ⌜ ((bytes : List ℕ) → ((i : ℕ) → getD bytes i 0 < 256) → 0 < length bytes → is-hex (hex-text bytes) ≡ true) ⌝ }
     ensures back { λ _. ⌜ ((bytes : List ℕ) → ((i : ℕ) → getD bytes i 0 < 256) → hex-bytes (hex-text bytes) ≡ bytes) ⌝ }
-{
-}
+{}

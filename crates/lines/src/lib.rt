@@ -1,6 +1,9 @@
 // The text layer of the programs: what their lines say, and the bytes that they print.
 pub mod decimal;
 pub mod hex;
-pub mod words;
-pub mod output;
 pub mod input;
+pub mod output;
+pub mod script;
+#[cfg(test)]
+mod tests;
+pub mod words;

@@ -3,7 +3,7 @@ ghost use mathlib.Core.List.{_∷_};
 ghost use Prim.Native.Nat.{_≤_};
 ghost use lib.ListN.{length};
 ghost use Rattle.std.specs.Options.{mapped};
-ghost use Rattle.lines.specs.Words.{before, behind, words, words-left};
+ghost use Rattle.lines.specs.Words.{before, behind, words, rest-words};
 
 const SPACE: u8 = b' ';
 
@@ -24,7 +24,7 @@ pub fn find(text: &[u8], mark: u8) -> usize
 pub fn split(text: &[u8]) -> (&[u8], Option<&[u8]>)
     ensures word { λ r. ⌜ now (r .0) ≡ before 32 (now (text .entry)) ⌝ }
     ensures more { λ r. ⌜ mapped (λ x. now x) (r .1) ≡ behind 32 (now (text .entry)) ⌝ }
-    ensures words { λ r. ⌜ words (now (text .entry)) ≡ now (r .0) ∷ words-left (mapped (λ x. now x) (r .1)) ⌝ }
+    ensures words { λ r. ⌜ words (now (text .entry)) ≡ now (r .0) ∷ rest-words (r .1) ⌝ }
 {
     let end = find(text, SPACE);
     if end < text.len() {

@@ -1,7 +1,8 @@
 ghost use mathlib.Core.Path.{_≡_};
 ghost use Rattle.part.specs.Parts.{at-1};
+ghost use Rattle.borrower.specs.Steps.{risen};
 ghost use Rattle.borrower.specs.Tablets.{part-at, filed-at, copy-at};
-ghost use Rattle.borrower.specs.Outcomes.{recorded-by, records-of, Stepped};
+ghost use Rattle.borrower.specs.Outcomes.{recorded-by, records-of, Stepped, Left};
 use crate::hold::OnFile;
 use crate::hold::Part;
 use crate::tablet::Tablet;
@@ -41,6 +42,14 @@ impl Tablet {
         ensures who { λ _. ⌜ now (self .exit) .who ≡ now (self .entry) .who ⌝ }
     {
         self.filed[place.at as usize] = numbers;
+    }
+
+    // The part is as after coming up with these numbers in the journal.
+    pub(crate) fn come_up(&mut self, place: Place, numbers: OnFile)
+        ensures { λ _. ⌜ Left (now (self .entry)) (now (self .exit)) (at-1 (place .at) (risen numbers) (part-at (now (self .entry)))) (at-1 (place .at) numbers (filed-at (now (self .entry)))) (copy-at (now (self .entry))) ⌝ }
+    {
+        self.put_part(place, Part::come_up(numbers));
+        self.put_filed(place, numbers);
     }
 
     // Writes the bytes of a copy.

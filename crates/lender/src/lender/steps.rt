@@ -18,14 +18,14 @@ use part::who::Who;
 
 impl Lender {
     // The write of this number is applied.
-    fn set_done(&mut self, head: Head)
+    pub(crate) fn set_done(&mut self, head: Head)
         ensures { λ _. ⌜ book (now (self .exit)) ≡ applied (head .who .id) (head .place .at) (head .number) (book (now (self .entry))) ⌝ }
     {
         self.numbers[head.place.at as usize].apply(head.who, head.number);
     }
 
     // The writes up to this number are void.
-    fn set_void(&mut self, who: Who, place: Place, number: u32)
+    pub(crate) fn set_void(&mut self, who: Who, place: Place, number: u32)
         ensures { λ _. ⌜ book (now (self .exit)) ≡ with-void-at (who .id) (place .at) number (book (now (self .entry))) ⌝ }
     {
         self.numbers[place.at as usize].void(who, number);

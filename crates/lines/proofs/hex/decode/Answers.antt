@@ -11,4 +11,5 @@ returns c =
     let yes = sym (c .if-not-is-hex .ensures tt) in
     record {
       count = ap (λ (n : ℕ). Some n) (sym (length-bytes (c .args .text .now))) ∙ sym (cond-true _ _ _ yes);
-      after = c .put .ensures ∙ sym (cond-true _ _ _ yes) }
+      after = c .put .ensures ∙ sym (cond-true _ _ _ yes);
+    }

@@ -14,5 +14,6 @@ pub returns : need.returns
 returns c =
     simp unary-clauses
     (elim (c .loop-end-test .came) [
-        then-loop-end-test·else-bytes-end-eq0 w ↦ zeros-stop (c .args .bytes .now) (c .loop-end .end) (omega arith) (λ e. omega arith) (c .loop-end .inv)
-      | else-loop-end-test w ↦ zeros-all (c .args .bytes .now) (c .loop-end .end) (omega arith) (c .loop-end .inv) ])
+      | then-loop-end-test·else-bytes-end-eq0 w ↦ zeros-stop (c .args .bytes .now) (c .loop-end .end) (omega arith) (λ e. omega arith) (c .loop-end .inv)
+      | else-loop-end-test w ↦ zeros-all (c .args .bytes .now) (c .loop-end .end) (omega arith) (c .loop-end .inv)
+    ])

@@ -7,7 +7,8 @@ pub returns-then-text-i : need.returns-then-text-i
 returns-then-text-i c =
     record {
       at = omega (arith, c .loop-i .inv, find-here (c .args .mark) (c .args .text .now) (c .loop-i .i) (omega arith) (omega arith));
-      within = omega arith }
+      within = omega arith;
+    }
 
 pub loop-i-again : need.loop-i-again
 loop-i-again c =
@@ -17,4 +18,5 @@ pub returns : need.returns
 returns c =
     record {
       at = omega (arith, c .loop-i .inv, find-end (c .args .mark) (c .args .text .now) (c .loop-i .i) (omega arith));
-      within = omega arith }
+      within = omega arith;
+    }

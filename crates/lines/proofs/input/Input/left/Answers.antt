@@ -11,4 +11,5 @@ pub returns : need.returns
 returns c =
     record {
       is = take-rest _ (c .args .self .now .next) ∙ ap (λ (q : List ℕ). drop (c .args .self .now .next) q) (c .deref .ensures .value);
-      len = search needs }
+      len = search needs;
+    }

@@ -1,0 +1,6 @@
+pub mod Records
+pub mod Laws
+pub mod Reading
+pub mod Stores
+pub mod Memory
+pub mod Replays
