@@ -3,5 +3,3 @@ pub mod HexTexts
 pub mod Splits
 pub mod Prints
 pub mod Handing
-pub mod Filling
-pub mod Bounds

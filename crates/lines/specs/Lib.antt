@@ -4,4 +4,3 @@ pub mod Hex
 pub mod Words
 pub mod Outputs
 pub mod Inputs
-pub mod Scripts

@@ -3,7 +3,6 @@ pub mod decimal;
 pub mod hex;
 pub mod input;
 pub mod output;
-pub mod script;
 #[cfg(test)]
 mod tests;
 pub mod words;

@@ -9,9 +9,9 @@ use Rattle.std.specs.Orderings.{When}
 use Rattle.std.specs.declared.option.Option.{Option}
 use Rattle.std.specs.declared.option.Option.the-variants.{Some, None}
 use Rattle.part.specs.declared.place.Place.{Place}
-use Rattle.lines.specs.declared.script.Step.{Step}
-use Rattle.lines.specs.declared.script.Step.the-variants.{Blank, Set, Tick, Up, Stop, Call, Deliver}
-use Rattle.lines.specs.declared.script.Step.the-variants as step
+use Rattle.script.specs.declared.step.Step.{Step}
+use Rattle.script.specs.declared.step.Step.the-variants.{Blank, Set, Tick, Up, Stop, Call, Deliver}
+use Rattle.script.specs.declared.step.Step.the-variants as step
 use Rattle.message.specs.declared.refusal.Refusal.the-variants.{Malformed}
 use Rattle.clock.specs.declared.terms.Terms.{Terms}
 use Rattle.clock.specs.declared.clocks.Clocks.{Clocks}

@@ -2,9 +2,9 @@
 use lines::input::Input;
 use lines::input::Line;
 use lines::output::Output;
-use lines::script::parse;
 use rehearsal::Rehearsal;
 use rehearsal::Said;
+use script::step::parse;
 use startup::terms;
 use std::env;
 use std::error::AnyError;
@@ -12,7 +12,8 @@ use std::io::Write;
 
 mod rehearsal;
 
-const USAGE: &str = "usage: rehearse RATE SHORT LONG < SCRIPT\nPlays the script on standard input with one keeper and borrowers 0 to 3.\nRATE is how far off clocks may run, in parts of a million; SHORT and LONG are how long a loan is, in milliseconds, for the borrower and for the keeper.\nLines: set K [B0 ..]   anew   tick T [K [B0 ..]]   # a comment\n";
+const USAGE: &str =
+    "usage: rehearse RATE SHORT LONG < SCRIPT\nPlays the script on standard input with one keeper and borrowers 0 to 3.\nRATE is how far off clocks may run, in parts of a million; SHORT and LONG are how long a loan is, in milliseconds, for the borrower and for the keeper.\nLines: set K [B0 ..]   anew   tick T [K [B0 ..]]   # a comment\n";
 
 fn print_said(out: &mut Output, said: Said) -> Result<(), AnyError> {
     match said {
@@ -49,7 +50,12 @@ fn play(rt: &LibcRuntime, mut rehearsal: Rehearsal) -> Result<(), AnyError> {
 fn run(rt: &LibcRuntime) -> Result<(), AnyError> {
     let mut args = env::args(rt)?;
     let _ = args.next();
-    let (Some(rate), Some(short), Some(long), None) = (args.next(), args.next(), args.next(), args.next()) else {
+    let (Some(rate), Some(short), Some(long), None) = (
+        args.next(),
+        args.next(),
+        args.next(),
+        args.next(),
+    ) else {
         return Err("three arguments are wanted: RATE SHORT LONG".into());
     };
     match terms(rate.as_bytes(), short.as_bytes(), long.as_bytes()) {

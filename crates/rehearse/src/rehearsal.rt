@@ -2,9 +2,9 @@ ghost use mathlib.Core.Path.{_≡_};
 ghost use Rattle.rehearse.specs.Played.{Started, Set-to, Ticked, Later, Played};
 use clock::clocks::Clocks;
 use clock::terms::Terms;
-use lines::script::Step;
 use message::refusal::Refusal;
 use part::place::Place;
+use script::step::Step;
 
 /// What is printed of a line.
 #[derive(Clone, Copy)]
@@ -28,7 +28,10 @@ impl Rehearsal {
         ensures { λ r. ⌜ Started terms r ⌝ }
     {
         let clocks = Clocks::new(terms, &[0; 5]);
-        Rehearsal { clocks, begun: false }
+        Rehearsal {
+            clocks,
+            begun: false,
+        }
     }
 
     fn set(&mut self, keeper: u64, borrowers: [u64; 4]) -> Said

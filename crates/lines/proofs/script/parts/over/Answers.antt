@@ -1,5 +1,0 @@
-use Rattle.lines.proofs.Filling.{over-is}
-use Rattle.lines.proofs.script.parts.over.Needs as need
-
-pub returns : need.returns
-returns c = over-is (c .args .rest) (c .is-none .result) (c .is-none .ensures)
