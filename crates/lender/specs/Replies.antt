@@ -10,8 +10,7 @@ use Rattle.message.specs.declared.kind.Kind.{Kind}
 use Rattle.message.specs.declared.refusal.Refusal.{Refusal}
 use Rattle.message.specs.declared.refusal.Refusal.the-variants.{Malformed}
 use Rattle.message.specs.declared.form.Message.{Message}
-use Rattle.message.specs.declared.form.Message.the-variants as code
-use Rattle.message.specs.Format.{Msg, Ask, Loan, Write, In, Void, Recall, Back, said}
+use Rattle.message.specs.Format.{Msg, Ask, Loan, Write, In, Void, Recall, Back, said, place-of}
 use Rattle.journal.specs.declared.record.Record.{Record}
 use Rattle.journal.specs.declared.record.Record.the-variants as kept
 use Rattle.journal.specs.Records.{Rec, recorded}
@@ -29,16 +28,7 @@ pub record Effect : Type 0 where
   pub sends : List Msg
   pub answer : Result (Unit {0}) Refusal
 
--- the part that a message and a record are about
-abbrev pub place-of : Message → ℕ
-place-of (code.Ask h k l) = h .place .at
-place-of (code.Loan h k) = h .place .at
-place-of (code.Write h) = h .place .at
-place-of (code.In h) = h .place .at
-place-of (code.Void h) = h .place .at
-place-of (code.Recall w p) = p .at
-place-of (code.Back h) = h .place .at
-
+-- the part that a record is about
 abbrev pub place-in : Record → ℕ
 place-in (kept.Applied h) = h .place .at
 place-in (kept.VoidUpTo h) = h .place .at

@@ -73,6 +73,16 @@ WellFormed (Void w q n) = Named w q n
 WellFormed (Recall w q) = (w < 32) × (q < 16384)
 WellFormed (Back w q n) = Named w q n
 
+-- the part that a message is about
+abbrev pub place-of : Message → ℕ
+place-of (code.Ask h k l) = h .place .at
+place-of (code.Loan h k) = h .place .at
+place-of (code.Write h) = h .place .at
+place-of (code.In h) = h .place .at
+place-of (code.Void h) = h .place .at
+place-of (code.Recall w p) = p .at
+place-of (code.Back h) = h .place .at
+
 -- how many bytes a message has
 abbrev pub size-of : Message → ℕ
 size-of (code.Ask h k l) = 13

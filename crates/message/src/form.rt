@@ -1,5 +1,5 @@
 ghost use mathlib.Core.Path.{_≡_};
-ghost use Rattle.message.specs.Format.{size-of};
+ghost use Rattle.message.specs.Format.{size-of, place-of};
 use crate::kind::Kind;
 use part::head::Head;
 use part::place::Place;
@@ -42,6 +42,21 @@ impl Message {
             Message::Void(_) => 8,
             Message::Recall { .. } => 4,
             Message::Back(_) => 8,
+        }
+    }
+
+    /// The part that it is about.
+    pub fn place(self) -> Place
+        ensures { λ r. ⌜ r .at ≡ place-of self ⌝ }
+    {
+        match self {
+            Message::Ask { head, .. } => head.place,
+            Message::Loan { head, .. } => head.place,
+            Message::Write(head) => head.place,
+            Message::In(head) => head.place,
+            Message::Void(head) => head.place,
+            Message::Recall { place, .. } => place,
+            Message::Back(head) => head.place,
         }
     }
 }
