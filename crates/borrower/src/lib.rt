@@ -3,3 +3,5 @@ pub mod hold;
 pub mod steps;
 pub mod outcome;
 pub mod tablet;
+#[cfg(test)]
+mod tests;

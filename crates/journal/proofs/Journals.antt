@@ -1,17 +1,16 @@
 -- The records that some bytes begin with.
 -- Assumes nothing.
 use mathlib.Core.Path.{_≡_, refl, ap, sym, subst, _∙_}
-use mathlib.Core.Bool.{Bool, true, false, cond}
 use mathlib.Core.List.{List, [], _∷_, _++_}
-use Prim.Native.Nat.{ℕ, zero, suc, _+_, _-_, _<_, _≤_}
+use Prim.Native.Nat.{ℕ, zero, suc, _+_, _-_, _<_}
 use native.Mathlib.Omega.{arith}
 use lib.Dec.{ltb}
 use lib.ListN.{length, getD, take, drop}
-use Rattle.std.proofs.shelf.Lists.{append-assoc, append-nil, drop-at, take-at, take-all, length-append, length-take-le, getD-take, joined-more}
+use Rattle.std.proofs.shelf.Lists.{append-assoc, append-nil, drop-at, take-at, take-all, length-take-le}
 use Rattle.std.proofs.shelf.Fronts.{front-rest}
 use Rattle.std.proofs.shelf.Tests.{cond-both, ltb-true, ltb-false}
 use Rattle.journal.specs.declared.record.Owner.{Owner}
-use Rattle.journal.specs.Records.{Rec, tag, body, layout, Sound, AllSound, bytes-of, announced, Torn, NoRecord, Found, whole, torn, malformed, found, after, records-from, records-of, rest-of}
+use Rattle.journal.specs.Records.{Rec, tag, body, layout, Sound, AllSound, bytes-of, announced, Torn, NoRecord, Found, whole, torn, malformed, found, after, records-from, records-of}
 use Rattle.journal.specs.Laws.{ReadBack, AppendRead, TornLeaves, StopLeaves, FrontIsRecords}
 use Rattle.journal.proofs.Parses.{long, front, Shown, shown, torn-none}
 
@@ -70,8 +69,7 @@ front-is-records o bs =
     let p = parted o bs in
     let rs : List Rec = records-of o bs in
     let rest : List ℕ = p .1 in
-    let P : List ℕ → Type 0 = NoRecord o in
-    (
+    let P : List ℕ → Type 0 = NoRecord o in (
       p .0,
       ap (λ (q : List ℕ). take (length (bytes-of rs)) q) (sym (p .2)) ∙ take-at (bytes-of rs) rest _ refl,
       subst P (sym (front-rest bs (bytes-of rs) rest (sym (p .2)))) (p .3),
@@ -94,7 +92,7 @@ read-back o (r ∷ rs) f t =
 pub append-read : AppendRead
 append-read o rs f r g =
     let e : records-of o (layout r) ≡ r ∷ [] =
-        ap (records-of o) (sym (append-nil (layout r))) ∙ step o r g [] ∙ ap (λ (q : List Rec). r ∷ q) (none o [] (torn-none o [] tt)) in
+    ap (records-of o) (sym (append-nil (layout r))) ∙ step o r g [] ∙ ap (λ (q : List Rec). r ∷ q) (none o [] (torn-none o [] tt)) in
     read-back o rs f (layout r) ∙ ap (λ (q : List Rec). rs ++ q) e
 
 -- a proper first part of a record

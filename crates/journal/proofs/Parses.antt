@@ -1,19 +1,19 @@
 -- What some bytes begin with: a record is found in front of its bytes, and of a record that is found these are the bytes.
 -- Assumes nothing.
 use mathlib.Core.Path.{_≡_, refl, ap, sym, subst, _∙_}
-use mathlib.Core.Bool.{Bool, true, false, cond, _&&_}
+use mathlib.Core.Bool.{true, false}
 use mathlib.Core.List.{List, [], _∷_, _++_}
 use Prim.Native.Nat.{ℕ, zero, suc, _+_, _*_, _-_, _/_, _%_, _<_, _≤_}
 use native.Mathlib.Omega.{arith}
-use lib.Dec.{eqb, ltb, lit<, lit≤}
+use lib.Dec.{eqb, ltb, lit<}
 use lib.ListN.{length, getD, take, drop}
 use Rattle.std.proofs.shelf.Lists.{length-append, length-drop, take-at, take-append-drop, length-take-le}
-use Rattle.std.proofs.shelf.Tests.{ltb-true, ltb-false, lt-ltb, le-ltb, eqb-true, eqb-false, and-parts, and-from, false≢true, cond-both, cond-true, cond-false}
+use Rattle.std.proofs.shelf.Tests.{ltb-true, ltb-false, lt-ltb, le-ltb, eqb-true, and-parts, and-from, false≢true, cond-both, cond-true, cond-false}
 use Rattle.part.specs.Bytes.{four, headed, Named}
 use Rattle.part.proofs.Numbers.{peel, four-of, number-back}
 use Rattle.journal.specs.declared.record.Owner.{Owner}
 use Rattle.journal.specs.declared.record.Owner.the-variants.{Keeper, Borrower}
-use Rattle.journal.specs.Records.{Rec, Applied, VoidUpTo, Numbers, tag, body, layout, WellFormed, Kept, Sound, announced, Torn, NoRecord, Found, whole, torn, malformed, below, number, place-at, judged, head-limits, numbers-limits, applied-in, void-in, numbers-in, found}
+use Rattle.journal.specs.Records.{Rec, Applied, VoidUpTo, Numbers, tag, body, layout, Sound, announced, Torn, NoRecord, Found, whole, torn, malformed, below, judged, head-limits, numbers-limits, applied-in, void-in, numbers-in, found}
 
 -- the length by the first byte
 pub long : (o : Owner) (r : Rec) → Sound o r → length (layout r) ≡ announced o (tag r)
@@ -71,7 +71,7 @@ front Borrower (Numbers q a w) (f, k) more =
     let e : whole (numbers-in ys) ≡ whole (Numbers q a w) = cc in
     judged-whole 10 numbers-limits (numbers-in ys) ys (omega arith)
     (place-below q (256 ∷ 256 ∷ 256 ∷ 256 ∷ 256 ∷ 256 ∷ 256 ∷ 256 ∷ []) ((four a ++ four w) ++ more) (f .0)
-      (four-below a (256 ∷ 256 ∷ 256 ∷ 256 ∷ []) (four w ++ more) (four-below w [] more refl)))
+    (four-below a (256 ∷ 256 ∷ 256 ∷ 256 ∷ []) (four w ++ more) (four-below w [] more refl)))
     ∙ e
 
 -- from the bytes to a record
@@ -138,8 +138,7 @@ numbers-shown b c d e f g i j k l zs h =
     let p : (256 * b + c) / 256 ≡ b = omega arith in
     let q : (256 * b + c) % 256 ≡ c = omega arith in
     let r : four m ≡ d ∷ e ∷ f ∷ g ∷ [] = four-of d e f g m hd he hf hg refl in
-    let s : four n ≡ i ∷ j ∷ k ∷ l ∷ [] = four-of i j k l n hi hj hk hl refl in
-    (
+    let s : four n ≡ i ∷ j ∷ k ∷ l ∷ [] = four-of i j k l n hi hj hk hl refl in (
       ((omega arith, omega arith, omega arith), tt),
       rw (p, q) (ap (λ (xs : List ℕ). 10 ∷ b ∷ c ∷ ((xs ++ four n) ++ zs)) r ∙ ap (λ (xs : List ℕ). 10 ∷ b ∷ c ∷ d ∷ e ∷ f ∷ g ∷ (xs ++ zs)) s),
     )
@@ -150,19 +149,19 @@ judged-shown : (o : Owner) (t n : ℕ) (ls : List ℕ) (r : Rec) (ys : List ℕ)
 judged-shown o t n ls r ys a h =
     cond-both (ltb (length ys) n) torn _ (Shown o (t ∷ ys)) (λ e. omega (arith, ltb-true (length ys) n e))
     (λ e. cond-both (below ls ys) (whole r) malformed (Shown o (t ∷ ys)) (λ b. h (ltb-false (length ys) n e) b)
-      (λ b k. omega (arith, ltb-false (length ys) n e)))
+    (λ b k. omega (arith, ltb-false (length ys) n e)))
 
 seven : (ys : List ℕ) → 7 ≤ length ys
     → ys ≡ getD ys 0 0 ∷ getD ys 1 0 ∷ getD ys 2 0 ∷ getD ys 3 0 ∷ getD ys 4 0 ∷ getD ys 5 0 ∷ getD ys 6 0 ∷ drop 7 ys
 seven ys l =
     peel ys 0 _ (omega arith) (peel ys 1 _ (omega arith) (peel ys 2 _ (omega arith) (peel ys 3 _ (omega arith)
-      (peel ys 4 _ (omega arith) (peel ys 5 _ (omega arith) (peel ys 6 _ (omega arith) refl))))))
+    (peel ys 4 _ (omega arith) (peel ys 5 _ (omega arith) (peel ys 6 _ (omega arith) refl))))))
 
 ten : (ys : List ℕ) → 10 ≤ length ys
     → ys ≡ getD ys 0 0 ∷ getD ys 1 0 ∷ getD ys 2 0 ∷ getD ys 3 0 ∷ getD ys 4 0 ∷ getD ys 5 0 ∷ getD ys 6 0 ∷ getD ys 7 0 ∷ getD ys 8 0 ∷ getD ys 9 0 ∷ drop 10 ys
 ten ys l =
     peel ys 0 _ (omega arith) (peel ys 1 _ (omega arith) (peel ys 2 _ (omega arith) (peel ys 3 _ (omega arith) (peel ys 4 _ (omega arith)
-      (peel ys 5 _ (omega arith) (peel ys 6 _ (omega arith) (peel ys 7 _ (omega arith) (peel ys 8 _ (omega arith) (peel ys 9 _ (omega arith) refl)))))))))
+    (peel ys 5 _ (omega arith) (peel ys 6 _ (omega arith) (peel ys 7 _ (omega arith) (peel ys 8 _ (omega arith) (peel ys 9 _ (omega arith) refl)))))))))
 
 first-8 : (ys : List ℕ) → Shown Keeper (8 ∷ ys) (judged 1031 head-limits (applied-in ys) ys)
 first-8 ys =
@@ -200,7 +199,7 @@ shown Keeper (t ∷ ys) =
     let P9 : ℕ → Type 0 = λ u. Shown Keeper (u ∷ ys) (judged 7 head-limits (void-in ys) ys) in
     cond-both (eqb t 8) _ _ (Shown Keeper (t ∷ ys)) (λ e. subst P8 (sym (eqb-true t 8 e)) (first-8 ys))
     (λ e. cond-both (eqb t 9) _ _ (Shown Keeper (t ∷ ys)) (λ f. subst P9 (sym (eqb-true t 9 f)) (first-9 ys))
-      (λ f. no-kind Keeper t ys (keeper-none t e f)))
+    (λ f. no-kind Keeper t ys (keeper-none t e f)))
 shown Borrower (t ∷ ys) =
     let P10 : ℕ → Type 0 = λ u. Shown Borrower (u ∷ ys) (judged 10 numbers-limits (numbers-in ys) ys) in
     cond-both (eqb t 10) _ _ (Shown Borrower (t ∷ ys)) (λ e. subst P10 (sym (eqb-true t 10 e)) (first-10 ys))

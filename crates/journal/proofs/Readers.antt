@@ -6,10 +6,9 @@ use Prim.Native.Nat.{ℕ, _+_, _*_, _-_, _/_, _%_, _<_, _≤_}
 use native.Mathlib.Omega.{arith}
 use lib.ListN.{length, getD, take, drop}
 use Rattle.std.proofs.shelf.Lists.{length-take-le, length-drop, length-append, drop-take, drop-drop, take-append-drop}
-use Rattle.part.specs.Bytes.{four, headed, Named}
+use Rattle.part.specs.Bytes.{four, headed}
 use Rattle.part.proofs.Numbers.{peel}
 use Rattle.std.proofs.shelf.Lists.{drop-all, drop-at, take-rest, append-nil}
-use Rattle.std.specs.declared.result.Result.{Result}
 use Rattle.std.specs.declared.result.Result.the-variants.{Ok, Err}
 use Rattle.message.specs.declared.form.Malformed.{Malformed}
 use Rattle.std.proofs.shelf.Parts.{first-rest}
@@ -19,7 +18,7 @@ use Rattle.journal.specs.declared.record.Record.{Record}
 use Rattle.journal.specs.declared.record.Record.the-variants as code
 use Rattle.journal.specs.declared.read.Next.{Next}
 use Rattle.journal.specs.declared.read.Next.the-variants as answer
-use Rattle.journal.specs.Records.{Rec, Applied, layout, Sound, AllSound, Torn, NoRecord, bytes-of, records-of, rest-of}
+use Rattle.journal.specs.Records.{Rec, Applied, layout, Sound, Torn, NoRecord, bytes-of, records-of, rest-of}
 use Rattle.journal.specs.Reading.{ending, Standing, Stands, Cut, Refused, Judged}
 use Rattle.journal.specs.Laws.{TornIsCut, CutOnce}
 use Rattle.journal.proofs.Parses.{torn-none}
@@ -39,8 +38,8 @@ pub applied-is : (ys : List ℕ) (w q n : ℕ) → 1031 ≤ length ys → headed
     → 8 ∷ ys ≡ 8 ∷ (headed w q n (carried (take 1032 (8 ∷ ys))) ++ drop 1031 ys)
 applied-is ys w q n l e =
     let a : carried (take 1032 (8 ∷ ys)) ++ drop 1031 ys ≡ drop 7 ys =
-        ap (λ (v : List ℕ). v ++ drop 1031 ys) (part-is ys l) ∙ ap (λ (v : List ℕ). take 1024 (drop 7 ys) ++ v) (sym (drop-drop 1024 7 ys))
-        ∙ take-append-drop 1024 (drop 7 ys) in
+    ap (λ (v : List ℕ). v ++ drop 1031 ys) (part-is ys l) ∙ ap (λ (v : List ℕ). take 1024 (drop 7 ys) ++ v) (sym (drop-drop 1024 7 ys))
+    ∙ take-append-drop 1024 (drop 7 ys) in
     sym (ap (λ (v : List ℕ). 8 ∷ headed w q n v) a ∙ ap (λ (v : List ℕ). 8 ∷ v) e)
 
 pub numbers-is : (ys : List ℕ) (q a w : ℕ) → 10 ≤ length ys → q ≡ 256 * getD ys 0 0 + getD ys 1 0 → getD ys 1 0 < 256
@@ -50,9 +49,9 @@ numbers-is ys q a w l e b f g =
     let p : q / 256 ≡ getD ys 0 0 = omega arith in
     let r : q % 256 ≡ getD ys 1 0 = omega arith in
     let s : four w ++ drop 10 ys ≡ drop 6 ys =
-        ap (λ (v : List ℕ). v ++ drop 10 ys) (sym g) ∙ ap (λ (v : List ℕ). take 4 (drop 6 ys) ++ v) (sym (drop-drop 4 6 ys)) ∙ take-append-drop 4 (drop 6 ys) in
+    ap (λ (v : List ℕ). v ++ drop 10 ys) (sym g) ∙ ap (λ (v : List ℕ). take 4 (drop 6 ys) ++ v) (sym (drop-drop 4 6 ys)) ∙ take-append-drop 4 (drop 6 ys) in
     let t : four a ++ drop 6 ys ≡ drop 2 ys =
-        ap (λ (v : List ℕ). v ++ drop 6 ys) (sym f) ∙ ap (λ (v : List ℕ). take 4 (drop 2 ys) ++ v) (sym (drop-drop 4 2 ys)) ∙ take-append-drop 4 (drop 2 ys) in
+    ap (λ (v : List ℕ). v ++ drop 6 ys) (sym f) ∙ ap (λ (v : List ℕ). take 4 (drop 2 ys) ++ v) (sym (drop-drop 4 2 ys)) ∙ take-append-drop 4 (drop 2 ys) in
     let u = peel ys 0 _ (omega arith) (peel ys 1 _ (omega arith) (sym t)) in
     rw (p, r) (ap (λ (v : List ℕ). 10 ∷ v) u ∙ ap (λ (v : List ℕ). 10 ∷ getD ys 0 0 ∷ getD ys 1 0 ∷ (four a ++ v)) (sym s))
 
@@ -91,7 +90,8 @@ whole-at o bs at end r h =
     record {
       sound = subst Q e (s .sound);
       long = ap (λ (k : ℕ). at + k) (l ∙ ap (λ (m : Rec). length (layout m)) e);
-      is = s .is ∙ ap (λ (m : Rec). layout m ++ drop end (drop at bs)) e ∙ ap (λ (q : List ℕ). layout (ending bs (at + end) r) ++ q) (drop-drop end at bs) }
+      is = s .is ∙ ap (λ (m : Rec). layout m ++ drop end (drop at bs)) e ∙ ap (λ (q : List ℕ). layout (ending bs (at + end) r) ++ q) (drop-drop end at bs);
+    }
 
 -- the answers that no place stands in
 pub torn-past : (o : Owner) (bs : List ℕ) (at : ℕ) → length bs ≤ at → Torn o (drop at bs)
@@ -118,7 +118,7 @@ ahead-more o bs at end r s = ap (records-of o) (s .is) ∙ step o (ending bs end
 pub within-more : (o : Owner) (bs : List ℕ) (at end : ℕ) (r : Record) → at ≤ length bs → Standing o at bs r end → (at < end) × (end ≤ length bs)
 within-more o bs at end r h s =
     let l : length bs - at ≡ length (layout (ending bs end r)) + length (drop end bs) =
-        sym (length-drop at bs) ∙ ap length (s .is) ∙ length-append (layout (ending bs end r)) (drop end bs) in
+    sym (length-drop at bs) ∙ ap length (s .is) ∙ length-append (layout (ending bs end r)) (drop end bs) in
     let d = length-drop end bs in
     (omega (arith, s .long), omega (arith, s .long))
 
@@ -153,15 +153,14 @@ torn-is-cut o rs f t h (Ok n) c = ap Ok (c .long ∙ ap (λ (q : List Rec). leng
 torn-is-cut o rs f t h (Err x) c =
     let P : List ℕ → Type 0 = Torn o in
     let e : rest-of o (bytes-of rs ++ t) ≡ t =
-        ap (λ (q : List Rec). drop (length (bytes-of q)) (bytes-of rs ++ t)) (torn-end o rs f t h) ∙ drop-at (bytes-of rs) t _ refl in
+    ap (λ (q : List Rec). drop (length (bytes-of q)) (bytes-of rs ++ t)) (torn-end o rs f t h) ∙ drop-at (bytes-of rs) t _ refl in
     absurd (c .0 (subst P (sym e) h))
 
 pub cut-once : CutOnce
 cut-once o bs n c =
     let rs : List Rec = records-of o bs in
     let f = front-is-records o bs .0 in
-    let e : take n bs ≡ bytes-of rs ++ [] = c .front ∙ sym (append-nil (bytes-of rs)) in
-    (
+    let e : take n bs ≡ bytes-of rs ++ [] = c .front ∙ sym (append-nil (bytes-of rs)) in (
       ap (records-of o) e ∙ torn-end o rs f [] tt,
       λ res j. let P : List ℕ → Type 0 = λ q. Judged o q res in torn-is-cut o rs f [] tt res (subst P e j) ∙ ap Ok (sym (c .long)),
     )

@@ -1,9 +1,9 @@
 -- What is on disk after each call on a store.
 -- Assumes nothing.
-use mathlib.Core.Path.{_≡_, refl, ap, sym, _∙_}
+use mathlib.Core.Path.{_≡_, ap, sym, _∙_}
 use mathlib.Core.List.{List, _++_}
 use mathlib.Core.Logic.{inl, inr}
-use Prim.Native.Nat.{ℕ, min, _-_, _<_, _≤_}
+use Prim.Native.Nat.{ℕ, min, _-_, _≤_}
 use native.Mathlib.Omega.{arith}
 use lib.ListN.{length, take}
 use Rattle.std.proofs.shelf.Lists.{take-all, take-at, take-take, length-take}
@@ -23,10 +23,11 @@ grown-synced a b c s t u more (Err x) e f g h =
 pub take-less : (s n : ℕ) (xs : List ℕ) → take (min s n) (take n xs) ≡ take n (take s xs)
 take-less s n xs =
     elim (cases-lt s n) [
-      inl l ↦ let e : min s n ≡ s = omega arith in
-        ap (λ (k : ℕ). take k (take n xs)) e ∙ take-take s n xs (omega arith) ∙ sym (take-all n (take s xs) (omega (arith, length-take s xs)))
-    | inr l ↦ let e : min s n ≡ n = omega arith in
-        ap (λ (k : ℕ). take k (take n xs)) e ∙ take-take n n xs (omega arith) ∙ sym (take-take n s xs l) ]
+      | inl l ↦ let e : min s n ≡ s = omega arith in
+          ap (λ (k : ℕ). take k (take n xs)) e ∙ take-take s n xs (omega arith) ∙ sym (take-all n (take s xs) (omega (arith, length-take s xs)))
+      | inr l ↦ let e : min s n ≡ n = omega arith in
+          ap (λ (k : ℕ). take k (take n xs)) e ∙ take-take n n xs (omega arith) ∙ sym (take-take n s xs l)
+    ]
 
 -- the bytes that a writer put in front, as they are cut out
 pub front-is : (n : ℕ) (out lay rest : List ℕ) → n ≡ length lay → out ≡ lay ++ rest → take (n - 0) out ≡ lay

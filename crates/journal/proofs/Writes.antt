@@ -1,13 +1,12 @@
 -- What writing a record leaves, one write after another.
 -- Assumes nothing.
-use mathlib.Core.Path.{_≡_, refl, ap, sym, _∙_}
+use mathlib.Core.Path.{_≡_, refl}
 use mathlib.Core.List.{List, [], _∷_, _++_}
-use Prim.Native.Nat.{ℕ, _+_, _/_, _%_, _<_, _≤_}
+use Prim.Native.Nat.{ℕ, _+_, _/_, _%_, _≤_}
 use native.Mathlib.Omega.{arith}
 use lib.ListN.{length, drop, set}
-use Rattle.std.proofs.shelf.Lists.{length-set}
 use Rattle.part.specs.Bytes.{placed, four, headed}
-use Rattle.part.proofs.Writes.{put-one, next}
+use Rattle.part.proofs.Writes.{next}
 use Rattle.journal.specs.Records.{Rec, Applied, Numbers, layout}
 
 -- so many bytes, and the record stands in front

@@ -4,3 +4,4 @@ pub mod Reading
 pub mod Stores
 pub mod Memory
 pub mod Replays
+pub mod Logs

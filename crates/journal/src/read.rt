@@ -29,7 +29,10 @@ fn applied(body: &[u8]) -> Next
     let Some(head) = Head::read(body) else {
         return Next::Malformed;
     };
-    Next::Whole { record: Record::Applied(head), end: 1032 }
+    Next::Whole {
+        record: Record::Applied(head),
+        end: 1032,
+    }
 }
 
 // What begins with a first byte 9.
@@ -42,7 +45,10 @@ fn void_up_to(body: &[u8]) -> Next
     let Some(head) = Head::read(body) else {
         return Next::Malformed;
     };
-    Next::Whole { record: Record::VoidUpTo(head), end: 8 }
+    Next::Whole {
+        record: Record::VoidUpTo(head),
+        end: 8,
+    }
 }
 
 // What begins with a first byte 10.
@@ -61,7 +67,10 @@ fn numbers(body: &[u8]) -> Next
     let Some(write) = number_at(body, 6) else {
         unreachable()
     };
-    Next::Whole { record: Record::Numbers { place, ask, write }, end: 11 }
+    Next::Whole {
+        record: Record::Numbers { place, ask, write },
+        end: 11,
+    }
 }
 
 // What the bytes begin with.
@@ -92,7 +101,10 @@ pub fn next_record(owner: Owner, bytes: &[u8], at: usize) -> Next
         return Next::Torn;
     }
     match first(owner, &bytes[at..]) {
-        Next::Whole { record, end } => Next::Whole { record, end: at + end },
+        Next::Whole { record, end } => Next::Whole {
+            record,
+            end: at + end,
+        },
         Next::Torn => Next::Torn,
         Next::Malformed => Next::Malformed,
     }

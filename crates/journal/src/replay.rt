@@ -1,6 +1,4 @@
-ghost use mathlib.Core.Path.{_≡_};
-ghost use mathlib.Core.List.{List};
-ghost use Prim.Native.Nat.{ℕ, _≤_};
+ghost use Prim.Native.Nat.{_≤_};
 ghost use lib.ListN.{length};
 ghost use Rattle.journal.specs.Records.{Rec, recorded, WellFormed};
 ghost use Rattle.journal.specs.Reading.{ending};
@@ -80,7 +78,11 @@ fn shorten<S: Store>(store: &mut S, size: usize) -> Result<(), StoreError>
 
 /// Opens a journal: applies its whole records and cuts it after them, on the disk too. One that is refused is left as it
 /// is, and nothing is applied.
-pub fn open<S: Store, R: Journaled>(owner: Owner, store: &mut S, into: &mut R) -> Result<(), OpenError>
+pub fn open<S: Store, R: Journaled>(
+    owner: Owner,
+    store: &mut S,
+    into: &mut R,
+) -> Result<(), OpenError>
     ensures { λ r. ⌜ Opened becomes owner (appended (now (store .entry))) (appended (now (store .exit))) (synced (now (store .entry))) (synced (now (store .exit))) (now (into .entry)) (now (into .exit)) r ⌝ }
 {
     let Ok(size) = replay(owner, store.content(), into) else {

@@ -1,14 +1,14 @@
 ghost use mathlib.Core.Path.{_≡_};
-ghost use mathlib.Core.List.{List, _++_};
+ghost use mathlib.Core.List.{List};
 ghost use Prim.Native.Nat.{ℕ};
 ghost use Rattle.journal.specs.Records.{recorded, layout, WellFormed};
 ghost use Rattle.journal.specs.Stores.{Grown, Saved, Shortened};
 use crate::record::Record;
 use crate::record::encode;
 
-pub mod memory;
 pub mod failing;
 pub mod file;
+pub mod memory;
 
 /// Why a store did not do what it was asked.
 #[derive(Clone, Copy, PartialEq, Eq, Debug)]
@@ -58,7 +58,11 @@ pub fn commit<S: Store>(store: &mut S, bytes: &[u8]) -> Result<(), StoreError>
 }
 
 /// Appends a record and syncs, with the bytes of `part` where a part is applied.
-pub fn commit_record<S: Store>(store: &mut S, record: &Record, part: &[u8; 1024]) -> Result<(), StoreError>
+pub fn commit_record<S: Store>(
+    store: &mut S,
+    record: &Record,
+    part: &[u8; 1024],
+) -> Result<(), StoreError>
     ensures formed { λ _. ⌜ WellFormed (recorded (now (part .entry)) (now («record» .entry))) ⌝ }
     ensures grown { λ r. ⌜ Grown (appended (now (store .entry))) (layout (recorded (now (part .entry)) (now («record» .entry)))) (appended (now (store .exit))) r ⌝ }
     ensures saved { λ r. ⌜ Saved (synced (now (store .entry))) (appended (now (store .exit))) (synced (now (store .exit))) r ⌝ }

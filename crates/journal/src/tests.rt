@@ -38,7 +38,11 @@ fn head(number: u32) -> Option<Head> {
 
 // A borrower's record with the greatest numbers that its fields take.
 fn numbers(head: Head) -> Record {
-    Record::Numbers { place: head.place, ask: 4294967295, write: 0x0102_0304 }
+    Record::Numbers {
+        place: head.place,
+        ask: 4294967295,
+        write: 0x0102_0304,
+    }
 }
 
 // Where a journal is cut; none where it is refused.
@@ -73,7 +77,11 @@ fn the_bytes_of_each_record() -> Result<(), Fail> {
 
 // Whether a journal that begins with the records of this store, and was stopped while this record was appended, is cut
 // after those, at whichever byte the stop came.
-fn cut_everywhere(owner: Owner, store: &mut MemoryStore, record: &Record) -> Result<bool, StoreError> {
+fn cut_everywhere(
+    owner: Owner,
+    store: &mut MemoryStore,
+    record: &Record,
+) -> Result<bool, StoreError> {
     let before = store.content().len();
     commit_record(store, record, &[7; 1024])?;
     let bytes = store.content();
@@ -110,7 +118,12 @@ fn fields_of_a_torn_record_are_not_judged() -> Result<(), Fail> {
 }
 
 // Whether a journal is refused with each of these bytes in place of the one that stands there.
-fn refused_with(heap: Global, owner: Owner, store: &MemoryStore, changes: &[(usize, u8)]) -> Result<bool, AllocError> {
+fn refused_with(
+    heap: Global,
+    owner: Owner,
+    store: &MemoryStore,
+    changes: &[(usize, u8)],
+) -> Result<bool, AllocError> {
     for (at, byte) in changes {
         let mut bytes = store.content().to_vec(heap)?;
         if *at >= bytes.len() {
@@ -134,7 +147,9 @@ fn a_bad_record_of_the_keepers_is_refused(rt: LibcRuntime) -> Result<(), Fail> {
     commit_record(&mut store, &Record::VoidUpTo(head), &[0; 1024])?;
     check_eq(end(Owner::Keeper, store.content()), Some(16))?;
     let first = [(8, 0), (8, 7), (8, 10), (8, 11), (8, 255)];
-    check(refused_with(rt.alloc(), Owner::Keeper, &store, &first)?).note("no kind of the keeper's")?;
+    check(refused_with(rt.alloc(), Owner::Keeper, &store, &first)?).note(
+        "no kind of the keeper's",
+    )?;
     let fields = [(9, 32), (10, 64), (1, 32), (2, 64)];
     check(refused_with(rt.alloc(), Owner::Keeper, &store, &fields)?).note("borrower 32, file 64")?;
     check_eq(end(Owner::Keeper, &[10]), None).note("no kind of the keeper's, cut short")
@@ -150,8 +165,12 @@ fn a_bad_record_of_a_borrowers_is_refused(rt: LibcRuntime) -> Result<(), Fail> {
     commit_record(&mut store, &numbers(head), &[0; 1024])?;
     check_eq(end(Owner::Borrower, store.content()), Some(22))?;
     let first = [(11, 0), (11, 7), (11, 8), (11, 9), (11, 11), (11, 255)];
-    check(refused_with(rt.alloc(), Owner::Borrower, &store, &first)?).note("no kind of a borrower's")?;
-    check(refused_with(rt.alloc(), Owner::Borrower, &store, &[(12, 64), (1, 64)])?).note("file 64")?;
+    check(refused_with(rt.alloc(), Owner::Borrower, &store, &first)?).note(
+        "no kind of a borrower's",
+    )?;
+    check(refused_with(rt.alloc(), Owner::Borrower, &store, &[(12, 64), (1, 64)])?).note(
+        "file 64",
+    )?;
     check_eq(end(Owner::Borrower, &[8]), None).note("no kind of a borrower's, cut short")
 }
 
@@ -182,7 +201,11 @@ impl Journaled for Seen as SeenJournaled {
     }
 }
 
-const NONE: Seen = Seen { next: 0, parts: 0, in_order: true };
+const NONE: Seen = Seen {
+    next: 0,
+    parts: 0,
+    in_order: true,
+};
 
 // Appends records with the numbers from 0 on, every other one a part.
 fn fill(store: &mut MemoryStore, count: u32) -> Result<(), Fail> {
@@ -190,7 +213,11 @@ fn fill(store: &mut MemoryStore, count: u32) -> Result<(), Fail> {
         let Some(head) = head(number) else {
             return Err(Fail::new("no head"));
         };
-        let record = if number % 2 == 0 { Record::Applied(head) } else { Record::VoidUpTo(head) };
+        let record = if number % 2 == 0 {
+            Record::Applied(head)
+        } else {
+            Record::VoidUpTo(head)
+        };
         commit_record(store, &record, &[(number % 256) as u8; 1024])?;
     }
     Ok(())
@@ -229,7 +256,10 @@ fn a_refused_journal_changes_nothing(rt: LibcRuntime) -> Result<(), Fail> {
     store.append(&[7])?;
     let size = store.content().len();
     let mut seen = NONE;
-    check_eq(open(Owner::Keeper, &mut store, &mut seen), Err(OpenError::Malformed))?;
+    check_eq(
+        open(Owner::Keeper, &mut store, &mut seen),
+        Err(OpenError::Malformed),
+    )?;
     check(seen.next == 0 && store.content().len() == size)
 }
 
@@ -242,7 +272,10 @@ fn a_store_fails(rt: LibcRuntime) -> Result<(), Fail> {
     check_eq(commit(&mut store, &[3]), Err(StoreError::Failed)).note("the append")?;
     check(store.content().len() == 3)?;
     let mut seen = NONE;
-    check_eq(open(Owner::Keeper, &mut store, &mut seen), Err(OpenError::Store(StoreError::Failed)))
+    check_eq(
+        open(Owner::Keeper, &mut store, &mut seen),
+        Err(OpenError::Store(StoreError::Failed)),
+    )
 }
 
 #[test]

@@ -4,3 +4,5 @@ pub mod answer;
 pub mod lender;
 pub mod keeper;
 pub mod laws;
+#[cfg(test)]
+mod tests;

@@ -1,4 +1,6 @@
 ghost use mathlib.Core.Path.{_≡_};
+ghost use Prim.Native.Nat.{suc, _<_};
+ghost use Rattle.clock.specs.Clocks.{present};
 ghost use Rattle.rehearse.specs.Played.{Started, Set-to, Ticked, Later, Played};
 use clock::clocks::Clocks;
 use clock::terms::Terms;
@@ -84,7 +86,14 @@ impl Rehearsal {
         }
     }
 
-    // What is not played yet.
+    /// What a borrower's clock reads.
+    pub fn reading(&self, who: u8) -> u64
+        ensures { λ r. ⌜ (who < 4 → r ≡ present (now (self .entry) .clocks) .hand (suc who)) ⌝ }
+    {
+        self.clocks.borrower(who).unwrap_or(0)
+    }
+
+    // What is not about time.
     fn later(&mut self) -> Said
         ensures { λ r. ⌜ Later (now (self .entry)) (now (self .exit)) r ⌝ }
     {

@@ -20,7 +20,10 @@ impl FailingStore {
         ensures empty { λ r. ⌜ file-of (r .file) ≡ [] ⌝ }
         ensures calls { λ r. ⌜ r .left ≡ left ⌝ }
     {
-        FailingStore { file: MemoryStore::new(heap), left }
+        FailingStore {
+            file: MemoryStore::new(heap),
+            left,
+        }
     }
 
     // Counts a call: whether it fails.

@@ -67,7 +67,10 @@ impl FileStore {
         file.read_to_end(&mut bytes)?;
         file.sync_all()?;
         sync_folder(rt, path)?;
-        Ok(FileStore { file, taken: MemoryStore::holding(bytes) })
+        Ok(FileStore {
+            file,
+            taken: MemoryStore::holding(bytes),
+        })
     }
 }
 

@@ -1,5 +1,4 @@
 use native.Mathlib.Omega.{arith}
-use mathlib.Core.Path.{_≡_}
 use Rattle.journal.proofs.Readers.{part-long, applied-is}
 use Rattle.journal.proofs.read.applied.Needs as need
 

@@ -1,5 +1,5 @@
 use native.Mathlib.Omega.{arith}
-use mathlib.Core.Path.{_≡_, refl}
+use mathlib.Core.Path.{refl}
 use Rattle.journal.proofs.Readers.{numbers-is}
 use Rattle.journal.proofs.read.numbers.Needs as need
 
@@ -11,4 +11,5 @@ returns c =
     record {
       sound = ((c .in-Some .place .within, a .small, w .small), tt);
       long = refl;
-      is = numbers-is ys _ _ _ (omega arith) (c .in-Some .ensures tt) (c .typed .body 1 .fits) (a .bytes) (w .bytes) }
+      is = numbers-is ys _ _ _ (omega arith) (c .in-Some .ensures tt) (c .typed .body 1 .fits) (a .bytes) (w .bytes);
+    }

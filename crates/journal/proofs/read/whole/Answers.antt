@@ -1,5 +1,5 @@
 use native.Mathlib.Omega.{arith}
-use Rattle.journal.proofs.Readers.{reached-none, reached-more, within-more, reached-torn, reached-malformed}
+use Rattle.journal.proofs.Readers.{reached-more, within-more, reached-torn, reached-malformed}
 use Rattle.journal.proofs.read.whole.Needs as need
 
 pub loop-end-less : need.loop-end-less

@@ -19,7 +19,8 @@ returns-in-Applied c =
     record {
       formed = λ _. rw s (p .named, lv);
       wrote = applied-wrote (i .head .who .id) (i .head .place .at) (i .head .number) xs _ (c .args .part .now) _ _ s
-    (there _ _ _ _ _ _ (p .fits) (omega arith) (p .after)) lv (put-mid 8 _ _ _ (c .args .part .now) (c .copy-from-slice .ensures .after) lv) }
+          (there _ _ _ _ _ _ (p .fits) (omega arith) (p .after)) lv (put-mid 8 _ _ _ (c .args .part .now) (c .copy-from-slice .ensures .after) lv);
+    }
 
 pub returns-in-Numbers : need.returns-in-Numbers
 returns-in-Numbers c =
@@ -32,4 +33,5 @@ returns-in-Numbers c =
     record {
       formed = λ _. rw s (i .place .within, a .small, w .small);
       wrote = numbers-wrote (i .place .at) (i .ask) (i .write) _ _ xs _ _ _ s l (c .file .ensures) (c .part .ensures)
-    (there _ _ _ _ _ _ (a .fits) (search needs) (a .after)) (there _ _ _ _ _ _ (w .fits) (search needs) (w .after)) }
+          (there _ _ _ _ _ _ (a .fits) (search needs) (a .after)) (there _ _ _ _ _ _ (w .fits) (search needs) (w .after));
+    }

@@ -1,4 +1,4 @@
-use mathlib.Core.Path.{_≡_, subst}
+use mathlib.Core.Path.{subst}
 use Rattle.journal.specs.Records.{Rec}
 use Rattle.journal.proofs.Turns.{no-part, too-short}
 use Rattle.journal.proofs.replay.apply_ending.Needs as need

@@ -1,7 +1,7 @@
 use native.Mathlib.Omega.{arith}
 use Rattle.journal.proofs.Parses.{torn-none}
 use Rattle.journal.proofs.Readers.{within-more}
-use Rattle.journal.proofs.Turns.{leading-none, leading-more, leading-end}
+use Rattle.journal.proofs.Turns.{leading-more, leading-end}
 use Rattle.journal.proofs.replay.replay.Needs as need
 
 pub apply-ending-requires : need.apply-ending-requires
@@ -9,7 +9,8 @@ apply-ending-requires g c κs =
     let s = c .in-Whole .ensures tt in
     record {
       within = within-more (c .args .owner) (c .args .bytes .now) (c .loop-record .at) (c .in-Whole .end) (c .in-Whole .«record») (c .loop-record .inv .0) s .1;
-      formed = s .sound .0 }
+      formed = s .sound .0;
+    }
 
 pub loop-record-less : need.loop-record-less
 loop-record-less g c =

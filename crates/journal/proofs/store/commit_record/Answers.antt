@@ -1,4 +1,4 @@
-use mathlib.Core.Path.{_≡_, refl, subst}
+use mathlib.Core.Path.{refl, subst}
 use mathlib.Core.List.{List}
 use Prim.Native.Nat.{ℕ}
 use Rattle.journal.specs.Records.{recorded, layout}
@@ -14,4 +14,5 @@ returns g c =
     record {
       formed = e .formed refl;
       grown = subst P (front-is (c .in-Some .size) (c .encode .last .out) lay _ (e .wrote .0) (e .wrote .1)) (c .commit .ensures .grown);
-      saved = c .commit .ensures .saved }
+      saved = c .commit .ensures .saved;
+    }

@@ -16,7 +16,10 @@ impl MemoryStore {
     pub fn new(heap: Global) -> MemoryStore
         ensures { λ r. ⌜ file-of r ≡ [] ⌝ }
     {
-        MemoryStore { bytes: Vec::new(heap), synced: 0 }
+        MemoryStore {
+            bytes: Vec::new(heap),
+            synced: 0,
+        }
     }
 
     /// A file that holds these bytes, synced.
