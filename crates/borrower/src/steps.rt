@@ -56,8 +56,14 @@ impl Hold {
     {
         match self {
             Hold::Nothing => Err(Refusal::NoCopy),
-            Hold::Copy { kind: Kind::Reading, asked: _ } => Err(Refusal::ReadOnly),
-            Hold::Copy { kind: Kind::Writing, asked: _ } => Ok(()),
+            Hold::Copy {
+                kind: Kind::Reading,
+                asked: _,
+            } => Err(Refusal::ReadOnly),
+            Hold::Copy {
+                kind: Kind::Writing,
+                asked: _,
+            } => Ok(()),
         }
     }
 
@@ -68,7 +74,8 @@ impl Hold {
             (Hold::Nothing, Hold::Nothing) => true,
             (Hold::Nothing, Hold::Copy { kind: _, asked: _ }) => false,
             (Hold::Copy { kind: _, asked: _ }, Hold::Nothing) => false,
-            (Hold::Copy { kind, asked }, Hold::Copy { kind: k, asked: a }) => same_kind(kind, k) && asked == a,
+            (Hold::Copy { kind, asked }, Hold::Copy { kind: k, asked: a }) => same_kind(kind, k)
+                && asked == a,
         }
     }
 }
@@ -79,14 +86,23 @@ impl Part {
         ensures { λ r. ⌜ r ≡ released self ⌝ }
     {
         let ask = if self.ask < LAST { self.ask + 1 } else { LAST };
-        Part { ask, write: self.write, asked: self.asked, hold: Hold::Nothing }
+        Part {
+            ask,
+            write: self.write,
+            asked: self.asked,
+            hold: Hold::Nothing,
+        }
     }
 
     /// Releases a copy that is no longer valid.
     pub fn settle(self, clock: u64, short: u64) -> Part
         ensures { λ r. ⌜ r ≡ settled clock short self ⌝ }
     {
-        if self.hold.is_stale(clock, short) { self.release() } else { self }
+        if self.hold.is_stale(clock, short) {
+            self.release()
+        } else {
+            self
+        }
     }
 
     /// Asks for the part.
@@ -101,8 +117,19 @@ impl Part {
             return (part, Err(Refusal::Exhausted));
         }
         let number = part.ask + 1;
-        let next = Part { ask: number, write: part.write, asked: clock, hold: part.hold };
-        (next, Ok(Asked { number, written: part.write }))
+        let next = Part {
+            ask: number,
+            write: part.write,
+            asked: clock,
+            hold: part.hold,
+        };
+        (
+            next,
+            Ok(Asked {
+                number,
+                written: part.write,
+            }),
+        )
     }
 
     /// Whether the copy may be shown.
@@ -125,7 +152,12 @@ impl Part {
                     return (part, Err(Refusal::Exhausted));
                 }
                 let number = part.write + 1;
-                let next = Part { ask: part.ask, write: number, asked: part.asked, hold: part.hold };
+                let next = Part {
+                    ask: part.ask,
+                    write: number,
+                    asked: part.asked,
+                    hold: part.hold,
+                };
                 (next.release(), Ok(number))
             }
         }
@@ -148,8 +180,17 @@ impl Part {
         if number != self.ask {
             return (self, Err(Refusal::OtherAsk));
         }
-        let hold = Hold::Copy { kind, asked: self.asked };
-        (Part { ask: self.ask, write: self.write, asked: self.asked, hold }, Ok(()))
+        let asked = self.asked;
+        let hold = Hold::Copy { kind, asked };
+        (
+            Part {
+                ask: self.ask,
+                write: self.write,
+                asked: self.asked,
+                hold,
+            },
+            Ok(()),
+        )
     }
 
     /// A recall comes: the number that is said back.
@@ -163,15 +204,27 @@ impl Part {
     pub fn come_up(file: OnFile) -> Part
         ensures { λ r. ⌜ r ≡ risen file ⌝ }
     {
-        let ask = if file.ask == 0 { 0 } else { file.ask.saturating_add(1) };
-        Part { ask, write: file.write, asked: 0, hold: Hold::Nothing }
+        let ask = if file.ask == 0 {
+            0
+        } else {
+            file.ask.saturating_add(1)
+        };
+        Part {
+            ask,
+            write: file.write,
+            asked: 0,
+            hold: Hold::Nothing,
+        }
     }
 
     /// Whether it is as the other.
     pub fn same(self, other: Part) -> bool
         ensures { λ r. ⌜ r ≡ same-part self other ⌝ }
     {
-        self.ask == other.ask && self.write == other.write && self.asked == other.asked && self.hold.same(other.hold)
+        self.ask == other.ask
+            && self.write == other.write
+            && self.asked == other.asked
+            && self.hold.same(other.hold)
     }
 }
 
@@ -179,7 +232,11 @@ impl Part {
 fn round_up(x: u32) -> u32
     ensures { λ r. ⌜ r ≡ rounded x ⌝ }
 {
-    if x > LAST - 63 { LAST } else { (x + 63) / 64 * 64 }
+    if x > LAST - 63 {
+        LAST
+    } else {
+        (x + 63) / 64 * 64
+    }
 }
 
 impl OnFile {
@@ -194,8 +251,16 @@ impl OnFile {
     pub fn raised(self, part: Part) -> OnFile
         ensures { λ r. ⌜ r ≡ kept-of self part ⌝ }
     {
-        let ask = if part.ask <= self.ask { self.ask } else { round_up(part.ask) };
-        let write = if part.write <= self.write { self.write } else { round_up(part.write) };
+        let ask = if part.ask <= self.ask {
+            self.ask
+        } else {
+            round_up(part.ask)
+        };
+        let write = if part.write <= self.write {
+            self.write
+        } else {
+            round_up(part.write)
+        };
         OnFile { ask, write }
     }
 }

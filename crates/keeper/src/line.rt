@@ -29,7 +29,10 @@ pub fn parse(line: &[u8], out: &mut [u8]) -> Option<Heard>
         return None;
     };
     match decode(text, out) {
-        Some(size) => Some(Heard { clock, size: Some(size) }),
+        Some(size) => Some(Heard {
+            clock,
+            size: Some(size),
+        }),
         None => None,
     }
 }

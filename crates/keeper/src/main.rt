@@ -19,7 +19,8 @@ mod line;
 mod print;
 mod session;
 
-const USAGE: &str = "usage: keeper RATE SHORT LONG FILE\nKeeps the parts, with its journal in FILE.\nEach line of standard input is a reading of its clock, and a message in hexadecimal where one came: CLOCK or CLOCK HEX.\nIt prints `send HEX` for each message that it sends, and then `done` or `refused N`.\n";
+const USAGE: &str =
+    "usage: keeper RATE SHORT LONG FILE\nKeeps the parts, with its journal in FILE.\nEach line of standard input is a reading of its clock, and a message in hexadecimal where one came: CLOCK or CLOCK HEX.\nIt prints `send HEX` for each message that it sends, and then `done` or `refused N`.\n";
 
 fn serve(rt: &LibcRuntime, mut session: Session<FileStore>) -> Result<(), AnyError> {
     let mut stdin = rt.stdin();
@@ -44,7 +45,8 @@ fn start(rt: &LibcRuntime, long: u64, path: &str) -> Result<(), AnyError> {
     let mut store = FileStore::open(rt, path)?;
     match open(Owner::Keeper, &mut store, &mut keeper) {
         Ok(()) => serve(rt, Session::new(keeper, store)),
-        Err(OpenError::Malformed) => Err("FILE is no journal of a keeper; it is left as it is".into()),
+        Err(OpenError::Malformed) =>
+            Err("FILE is no journal of a keeper; it is left as it is".into()),
         Err(OpenError::Store(_)) => Err("FILE could not be cut and synced".into()),
     }
 }
@@ -59,7 +61,12 @@ fn run(rt: &LibcRuntime) -> Result<(), AnyError> {
         rt.print(USAGE)?;
         return Ok(());
     }
-    let (Some(short), Some(long), Some(path), None) = (args.next(), args.next(), args.next(), args.next()) else {
+    let (Some(short), Some(long), Some(path), None) = (
+        args.next(),
+        args.next(),
+        args.next(),
+        args.next(),
+    ) else {
         return Err("four arguments are wanted: RATE SHORT LONG FILE".into());
     };
     match terms(rate.as_bytes(), short.as_bytes(), long.as_bytes()) {

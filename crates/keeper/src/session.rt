@@ -17,12 +17,22 @@ pub struct Session<S> {
 impl<S: Store> Session<S> {
     /// It comes up with the first line.
     pub fn new(keeper: Keeper, store: S) -> Session<S> {
-        Session { keeper, store, up: false, last: 0 }
+        Session {
+            keeper,
+            store,
+            up: false,
+            last: 0,
+        }
     }
 
     /// A line comes: what the keeper sends and answers is printed. `buffer` is for the bytes of a message: one more than the
     /// longest message has, so that no longer one is taken for a message.
-    pub fn hear(&mut self, line: &[u8], buffer: &mut [u8], out: &mut Output) -> Result<(), AnyError> {
+    pub fn hear(
+        &mut self,
+        line: &[u8],
+        buffer: &mut [u8],
+        out: &mut Output,
+    ) -> Result<(), AnyError> {
         let Some(heard) = parse(line, buffer) else {
             print::refused(out, 1)?;
             return Ok(());

@@ -31,8 +31,8 @@ clash-turned : (clock : ℕ) (a x : Lease) → barring clock (x .who) (x .place)
 clash-turned clock a x h =
     turned (running clock a) (running clock x) (eqb (x .place) (a .place)) (not (eqb (x .who) (a .who))) (writes (x .kind)) (writes (a .kind))
     (ap (λ p. running clock a && (p && (not (eqb (x .who) (a .who)) && (writes (x .kind) || writes (a .kind))))) (eqb-comm (x .place) (a .place))
-      ∙ ap (λ w. running clock a && (eqb (a .place) (x .place) && (not w && (writes (x .kind) || writes (a .kind))))) (eqb-comm (x .who) (a .who))
-      ∙ h)
+    ∙ ap (λ w. running clock a && (eqb (a .place) (x .place) && (not w && (writes (x .kind) || writes (a .kind))))) (eqb-comm (x .who) (a .who))
+    ∙ h)
 
 any-push : {X : Type 0} (p : X → Bool) (xs : List X) (x : X) → any p xs ≡ false → p x ≡ false → any p (xs ++ x ∷ []) ≡ false
 any-push p [] x h k = or-from (p x) false k refl
@@ -78,15 +78,16 @@ any-fewer p p′ f (x ∷ xs) h = let b = or-parts (p x) (any p xs) h in or-from
 
 pub exclusive-later : (c c′ : ℕ) (ls : List Lease) → c ≤ c′ → Exclusive c ls → Exclusive c′ ls
 exclusive-later c c′ [] le h = tt
-exclusive-later c c′ (a ∷ ls) le h =
-    ( any-fewer (clash c a) (clash c′ a)
-        (λ b e. later (running c a) (running c′ a) (running c b) (running c′ b) _ (still c c′ a le) (still c c′ b le) e) ls (h .0)
-    , exclusive-later c c′ ls le (h .1) )
-
+exclusive-later c c′ (a ∷ ls) le h = (
+  any-fewer (clash c a) (clash c′ a)
+      (λ b e. later (running c a) (running c′ a) (running c b) (running c′ b) _ (still c c′ a le) (still c c′ b le) e) ls (h .0),
+  exclusive-later c c′ ls le (h .1),
+)
 
 pub never-clash : NeverClash
 never-clash =
     record {
       later = exclusive-later;
       granted = λ c ls x k h. exclusive-lent c (running c) ls x h k;
-      ended = λ c w q n ls h. exclusive-kept c (staying w q n) ls h }
+      ended = λ c w q n ls h. exclusive-kept c (staying w q n) ls h;
+    }

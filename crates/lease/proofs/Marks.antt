@@ -35,12 +35,15 @@ module _ {X : Type 0} {n : ℕ} {f : ℕ → X → Bool} {xs : List X} {ms : Lis
   pub marked-more-yes : (d : X) (k : ℕ) → i < length xs → k < n → f k (getD xs i d) ≡ true → ((w : ℕ) → w ≢ k → f w (getD xs i d) ≡ false)
       → Marked n f xs ms i → Marked n f xs (set ms k true) (i + 1)
   marked-more-yes d k h kn yes′ no′ m =
-      record { long = length-set ms k true ∙ m .long
-             ; found = λ w l. elim (cases-eq w k) [
-                 inl e ↦ ap (λ b. b || any (f w) (drop (i + 1) xs)) (ap (λ j. getD (set ms k true) j false) e ∙ getD-set-same ms k true false (rw (m .long) kn))
-                     ∙ sym (sym (m .found w l) ∙ ap (λ b. getD ms w false || b) (step (f w) xs i d h ∙ rw (ap (λ j. f j (getD xs i d)) e ∙ yes′)) ∙ or-true (getD ms w false))
-               | inr ne ↦ ap (λ b. b || any (f w) (drop (i + 1) xs)) (getD-set-other ms k w true false ne)
-                     ∙ ap (λ b. getD ms w false || b) (sym (step (f w) xs i d h ∙ rw (no′ w ne))) ∙ m .found w l ] }
+      record {
+        long = length-set ms k true ∙ m .long;
+        found = λ w l. elim (cases-eq w k) [
+          | inl e ↦ ap (λ b. b || any (f w) (drop (i + 1) xs)) (ap (λ j. getD (set ms k true) j false) e ∙ getD-set-same ms k true false (rw (m .long) kn))
+              ∙ sym (sym (m .found w l) ∙ ap (λ b. getD ms w false || b) (step (f w) xs i d h ∙ rw (ap (λ j. f j (getD xs i d)) e ∙ yes′)) ∙ or-true (getD ms w false))
+          | inr ne ↦ ap (λ b. b || any (f w) (drop (i + 1) xs)) (getD-set-other ms k w true false ne)
+              ∙ ap (λ b. getD ms w false || b) (sym (step (f w) xs i d h ∙ rw (no′ w ne))) ∙ m .found w l
+        ];
+      }
 
   pub marked-all : length xs ≤ i → Marked n f xs ms i → (w : ℕ) → w < n → getD ms w false ≡ any (f w) xs
   marked-all h m w l = sym (or-false (getD ms w false)) ∙ ap (λ b. getD ms w false || b) (sym (at-drop-all (any (f w)) xs i h)) ∙ m .found w l

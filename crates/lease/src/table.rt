@@ -5,7 +5,6 @@ use crate::lease::Lease;
 pub mod search;
 pub mod steps;
 
-
 /// The leases. Memory for 4,096 is taken at the start, so that no step fails for want of it.
 #[derive(Drop)]
 pub struct Table {

@@ -38,6 +38,20 @@ pub struct Bars {
     pub kind: Kind,
 }
 
+impl Bars {
+    /// The test for a loan of this part, of this kind, to this borrower.
+    pub fn of(clock: u64, who: Who, place: Place, kind: Kind) -> Bars
+        ensures { λ r. ⌜ (r .clock ≡ clock) × (r .who .id ≡ who .id) × (r .place .at ≡ place .at) × (r .kind ≡ kind) ⌝ }
+    {
+        Bars {
+            clock,
+            who,
+            place,
+            kind,
+        }
+    }
+}
+
 pub impl Test for Bars as BarsTest {
     ghost passes = { λ s l. barring (s .clock) (s .who .id) (s .place .at) (s .kind) l };
 
@@ -61,7 +75,10 @@ pub impl Test for Allows as AllowsTest {
     ghost passes = { λ s l. allowing (s .clock) (s .who .id) (s .place .at) l };
 
     fn test(&self, lease: Lease) -> bool {
-        self.clock < lease.until && lease.place == self.place.at && lease.who == self.who.id && lease.kind.is_writing()
+        self.clock < lease.until
+            && lease.place == self.place.at
+            && lease.who == self.who.id
+            && lease.kind.is_writing()
     }
 }
 

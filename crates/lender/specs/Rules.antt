@@ -48,9 +48,13 @@ with-void-at i q l m = record { done = m .done; void = at-2 q i l (m .void); lea
 -- leases that no longer run are dropped, and one is added
 abbrev pub with-lease : (clock who place number : ℕ) → Kind → Book → Book
 with-lease c i q n k m =
-    record { done = m .done; void = m .void
-           ; leases = kept-by (running c) (m .leases) ++ record { who = i; place = q; kind = k; number = n; until = c + m .long } ∷ []
-           ; quiet = m .quiet; long = m .long }
+    record {
+      done = m .done;
+      void = m .void;
+      leases = kept-by (running c) (m .leases) ++ record { who = i; place = q; kind = k; number = n; until = c + m .long } ∷ [];
+      quiet = m .quiet;
+      long = m .long;
+    }
 
 -- the lease is added, and the writes up to l that are not applied are void from now on
 abbrev pub granted : (clock who place number : ℕ) → Kind → (written : ℕ) → (voids : Bool) → Book → Book

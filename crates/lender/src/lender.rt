@@ -3,10 +3,10 @@ ghost use Rattle.std.specs.Of.Vec.{vec-len};
 use crate::numbers::Numbers;
 use lease::table::Table;
 
-pub mod new;
 pub mod judge;
-pub mod steps;
+pub mod new;
 pub mod receive;
+pub mod steps;
 
 /// The keeper's memory but for the bytes of the parts, which are lent to each step.
 #[derive(Drop)]

@@ -15,7 +15,10 @@ impl Numbers {
     pub fn none() -> Numbers
         ensures { λ r. ⌜ r ≡ no-numbers ⌝ }
     {
-        Numbers { done: [0; 32], voided: [0; 32] }
+        Numbers {
+            done: [0; 32],
+            voided: [0; 32],
+        }
     }
 
     /// The number of the borrower's last write applied.

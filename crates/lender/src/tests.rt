@@ -39,11 +39,27 @@ fn served(keeper: &mut Keeper, store: &mut MemoryStore, clock: u64, message: Mes
     }
 }
 
-fn asked(keeper: &mut Keeper, store: &mut MemoryStore, clock: u64, id: u8, at: u16, kind: Kind) -> u8 {
+fn asked(
+    keeper: &mut Keeper,
+    store: &mut MemoryStore,
+    clock: u64,
+    id: u8,
+    at: u16,
+    kind: Kind,
+) -> u8 {
     let Some(head) = head(id, at, 1) else {
         return 99;
     };
-    served(keeper, store, clock, Message::Ask { head, kind, written: 0 })
+    served(
+        keeper,
+        store,
+        clock,
+        Message::Ask {
+            head,
+            kind,
+            written: 0,
+        },
+    )
 }
 
 #[test]
@@ -54,9 +70,17 @@ fn at_most_4096_leases_run(rt: LibcRuntime) -> Result<(), Fail> {
     for at in 0u16..4096 {
         check_eq(asked(&mut keeper, &mut store, 110, 0, at, Kind::Reading), 0)?;
     }
-    check_eq(asked(&mut keeper, &mut store, 219, 0, 5000, Kind::Reading), 9)?;
-    check_eq(asked(&mut keeper, &mut store, 219, 1, 0, Kind::Writing), 7).note("barred before full")?;
-    check_eq(asked(&mut keeper, &mut store, 220, 0, 5000, Kind::Reading), 0).note("all have ended")
+    check_eq(
+        asked(&mut keeper, &mut store, 219, 0, 5000, Kind::Reading),
+        9,
+    )?;
+    check_eq(asked(&mut keeper, &mut store, 219, 1, 0, Kind::Writing), 7).note(
+        "barred before full",
+    )?;
+    check_eq(
+        asked(&mut keeper, &mut store, 220, 0, 5000, Kind::Reading),
+        0,
+    ).note("all have ended")
 }
 
 #[test]
@@ -80,8 +104,14 @@ fn a_long_journal_is_replayed(rt: LibcRuntime) -> Result<(), Fail> {
     let Some(last) = head(16, 7, 10000) else {
         return Err(Fail::new("no head"));
     };
-    check_eq(served(&mut keeper, &mut store, 114, Message::Write(last)), 6).note("grace period")?;
-    check_eq(served(&mut keeper, &mut store, 115, Message::Write(last)), 8).note("void")?;
+    check_eq(
+        served(&mut keeper, &mut store, 114, Message::Write(last)),
+        6,
+    ).note("grace period")?;
+    check_eq(
+        served(&mut keeper, &mut store, 115, Message::Write(last)),
+        8,
+    ).note("void")?;
     check_eq(store.content().len(), 80000)
 }
 
@@ -91,5 +121,8 @@ fn near_the_end_of_the_clock(rt: LibcRuntime) -> Result<(), Fail> {
     let mut store = MemoryStore::new(rt.alloc());
     check(!keeper.come_up(u64::MAX - 109))?;
     check(keeper.come_up(u64::MAX - 110))?;
-    check_eq(asked(&mut keeper, &mut store, u64::MAX, 0, 0, Kind::Reading), 9)
+    check_eq(
+        asked(&mut keeper, &mut store, u64::MAX, 0, 0, Kind::Reading),
+        9,
+    )
 }

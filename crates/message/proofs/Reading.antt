@@ -81,9 +81,9 @@ unfolding read
 read-some xs m =
     cond-both (formed (guess xs) && same-bytes (layout (guess xs)) xs) (Some (guess xs)) None (λ (o : Option Msg). o ≡ Some m → WellFormed m × (layout m ≡ xs))
     (λ t e.
-      let p = and-parts (formed (guess xs)) (same-bytes (layout (guess xs)) xs) t in
-      let i : guess xs ≡ m = cc in
-      subst (λ (n : Msg). WellFormed n × (layout n ≡ xs)) i (formed-true (guess xs) (p .0), same-true (layout (guess xs)) xs (p .1)))
+    let p = and-parts (formed (guess xs)) (same-bytes (layout (guess xs)) xs) t in
+    let i : guess xs ≡ m = cc in
+    subst (λ (n : Msg). WellFormed n × (layout n ≡ xs)) i (formed-true (guess xs) (p .0), same-true (layout (guess xs)) xs (p .1)))
     (λ t e. let z : _≡_ {A = ℕ} 0 1 = cc in absurd (omega arith))
 
 pub read-none : (xs : List ℕ) → ((m : Msg) → WellFormed m → layout m ≡ xs → ⊥) → read xs ≡ None

@@ -27,7 +27,11 @@ fn ask(body: &[u8]) -> Result<Message, Malformed>
     let Some(written) = number_at(body, 8) else {
         return Err(Malformed);
     };
-    Ok(Message::Ask { head, kind, written })
+    Ok(Message::Ask {
+        head,
+        kind,
+        written,
+    })
 }
 
 fn loan(body: &[u8]) -> Result<Message, Malformed>

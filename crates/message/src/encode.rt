@@ -15,7 +15,11 @@ pub fn encode(message: &Message, part: &[u8; 1024], out: &mut [u8]) -> Option<us
         return None;
     }
     match message {
-        Message::Ask { head, kind, written } => {
+        Message::Ask {
+            head,
+            kind,
+            written,
+        } => {
             head.put(1, out);
             out[8] = kind.byte();
             put_number(out, 9, *written);

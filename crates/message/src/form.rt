@@ -10,9 +10,16 @@ use part::who::Who;
 #[derive(Clone, Copy)]
 pub enum Message {
     /// a borrower asks for a part; `written` is the number of its last write of the part
-    Ask { head: Head, kind: Kind, written: u32 },
+    Ask {
+        head: Head,
+        kind: Kind,
+        written: u32,
+    },
     /// the keeper lends a part, under the number of the ask
-    Loan { head: Head, kind: Kind },
+    Loan {
+        head: Head,
+        kind: Kind,
+    },
     /// a borrower writes a part
     Write(Head),
     /// the write of this number is applied
@@ -20,7 +27,10 @@ pub enum Message {
     /// the write of this number is void
     Void(Head),
     /// the keeper wants a part back
-    Recall { who: Who, place: Place },
+    Recall {
+        who: Who,
+        place: Place,
+    },
     /// a borrower gives back what it was lent for asks up to this number
     Back(Head),
 }

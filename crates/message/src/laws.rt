@@ -34,7 +34,11 @@ pub fn reads_exactly() -> u8
 }
 
 /// Writes a message into bytes that have room for any, and reads it again: it is the same.
-pub fn again(message: &Message, part: &[u8; 1024], out: &mut [u8; 1033]) -> Result<Message, Malformed>
+pub fn again(
+    message: &Message,
+    part: &[u8; 1024],
+    out: &mut [u8; 1033],
+) -> Result<Message, Malformed>
     ensures { λ r. ⌜ Gave (layout (said (now (part .entry)) (now (message .entry)))) r (said (now (part .entry)) (now (message .entry))) ⌝ }
 {
     let Some(size) = encode(message, part, out) else {

@@ -14,18 +14,32 @@ use std::test::*;
 fn head() -> Option<Head> {
     let who = Who::new(31)?;
     let place = Place::new(63, 255)?;
-    Some(Head { who, place, number: 0xfedc_ba98 })
+    Some(Head {
+        who,
+        place,
+        number: 0xfedc_ba98,
+    })
 }
 
 // One message of each kind, with the greatest numbers that its fields take.
 fn samples(head: Head) -> [Message; 7] {
     [
-        Message::Ask { head, kind: Kind::Writing, written: 4294967295 },
-        Message::Loan { head, kind: Kind::Reading },
+        Message::Ask {
+            head,
+            kind: Kind::Writing,
+            written: 4294967295,
+        },
+        Message::Loan {
+            head,
+            kind: Kind::Reading,
+        },
         Message::Write(head),
         Message::In(head),
         Message::Void(head),
-        Message::Recall { who: head.who, place: head.place },
+        Message::Recall {
+            who: head.who,
+            place: head.place,
+        },
         Message::Back(head),
     ]
 }
@@ -89,8 +103,15 @@ fn a_kind_is_0_or_1() -> Result<(), Fail> {
     };
     let part = [7u8; 1024];
     for message in [
-        Message::Ask { head, kind: Kind::Writing, written: 0 },
-        Message::Loan { head, kind: Kind::Reading },
+        Message::Ask {
+            head,
+            kind: Kind::Writing,
+            written: 0,
+        },
+        Message::Loan {
+            head,
+            kind: Kind::Reading,
+        },
     ] {
         let mut out = [0u8; 1033];
         let size = encode(&message, &part, &mut out).ok_or("no room")?;
@@ -108,9 +129,16 @@ fn the_bytes_of_an_ask() -> Result<(), Fail> {
         return Err(Fail::new("no head"));
     };
     let mut out = [0u8; 14];
-    let ask = Message::Ask { head, kind: Kind::Writing, written: 258 };
+    let ask = Message::Ask {
+        head,
+        kind: Kind::Writing,
+        written: 258,
+    };
     check_eq(encode(&ask, &[0; 1024], &mut out), Some(13))?;
-    check_eq(out, [1, 31, 63, 255, 0xfe, 0xdc, 0xba, 0x98, 1, 0, 0, 1, 2, 0])?;
+    check_eq(
+        out,
+        [1, 31, 63, 255, 0xfe, 0xdc, 0xba, 0x98, 1, 0, 0, 1, 2, 0],
+    )?;
     check_eq(encode(&ask, &[0; 1024], &mut [0; 12]), None)
 }
 

@@ -19,5 +19,5 @@ pub all-blank : (xs : List ℕ) → length xs ≡ 16777216 → ((k d : ℕ) → 
 unfolding blank
 all-blank xs e z =
     fun-ext (λ q. cond-both (ltb q 16384) (replicate 1024 0) [] (λ x. part-of xs q ≡ x)
-      (λ h. zeros xs 1024 (1024 * q) (omega (arith, ltb-true q 16384 h)) z)
-      (λ h. ap (take 1024) (drop-all (1024 * q) xs (omega (arith, ltb-false q 16384 h)))))
+    (λ h. zeros xs 1024 (1024 * q) (omega (arith, ltb-true q 16384 h)) z)
+    (λ h. ap (take 1024) (drop-all (1024 * q) xs (omega (arith, ltb-false q 16384 h)))))

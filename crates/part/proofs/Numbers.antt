@@ -30,9 +30,9 @@ stand xs k n l b e =
     let y : k + 2 + 1 ≡ k + 3 = omega arith in
     let z : k + 3 + 1 ≡ k + 4 = omega arith in
     let from : (m j : ℕ) (ys : List ℕ) → m + 1 ≡ j → m < length xs → drop j xs ≡ ys → drop m xs ≡ getD xs m 0 ∷ ys =
-        λ m j ys q h r. peel xs m ys h (ap (λ (i : ℕ). drop i xs) q ∙ r) in
+    λ m j ys q h r. peel xs m ys h (ap (λ (i : ℕ). drop i xs) q ∙ r) in
     ap (take 4) (from k (k + 1) _ refl (omega arith) (from (k + 1) (k + 2) _ x (omega arith)
-      (from (k + 2) (k + 3) _ y (omega arith) (from (k + 3) (k + 4) _ z (omega arith) refl))))
+    (from (k + 2) (k + 3) _ y (omega arith) (from (k + 3) (k + 4) _ z (omega arith) refl))))
     ∙ sym (four-of _ _ _ _ n (b k) (b (k + 1)) (b (k + 2)) (b (k + 3)) e)
 
 -- bytes that begin with a head are that head and what follows
@@ -42,7 +42,7 @@ head-is xs w q n l we qe b ne =
     let f : q / 256 ≡ getD xs 1 0 = omega arith in
     let p : q % 256 ≡ getD xs 2 0 = omega arith in
     let r : four n ++ drop 7 xs ≡ drop 3 xs =
-        ap (λ (ys : List ℕ). ys ++ drop 7 xs) (sym ne) ∙ ap (λ (ys : List ℕ). take 4 (drop 3 xs) ++ ys) (sym (drop-drop 4 3 xs)) ∙ take-append-drop 4 (drop 3 xs) in
+    ap (λ (ys : List ℕ). ys ++ drop 7 xs) (sym ne) ∙ ap (λ (ys : List ℕ). take 4 (drop 3 xs) ++ ys) (sym (drop-drop 4 3 xs)) ∙ take-append-drop 4 (drop 3 xs) in
     let t = peel xs 0 _ (omega arith) (peel xs 1 _ (omega arith) (peel xs 2 _ (omega arith) refl)) in
     cc
 

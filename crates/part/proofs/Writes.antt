@@ -58,10 +58,12 @@ module _ (xs ys : List ℕ) (k q : ℕ) (ke : k ≡ 1024) (fits : 1024 * q + 102
   part-at : (p : ℕ) → part-of (putMid (1024 * q) k xs ys) p ≡ at-1 q ys (part-of xs) p
   part-at p =
       elim (cases-order p q) [
-        inl e ↦ ap (part-of (putMid (1024 * q) k xs ys)) e ∙ here ∙ sym (cond-true (eqb p q) ys (part-of xs p) (eq-eqb p q e))
-      | inr o ↦ elim o [
-          inl h ↦ below p h ∙ sym (cond-false (eqb p q) ys (part-of xs p) (ne-eqb p q (λ e. omega arith)))
-        | inr h ↦ above p h ∙ sym (cond-false (eqb p q) ys (part-of xs p) (ne-eqb p q (λ e. omega arith))) ] ]
+        | inl e ↦ ap (part-of (putMid (1024 * q) k xs ys)) e ∙ here ∙ sym (cond-true (eqb p q) ys (part-of xs p) (eq-eqb p q e))
+        | inr o ↦ elim o [
+          | inl h ↦ below p h ∙ sym (cond-false (eqb p q) ys (part-of xs p) (ne-eqb p q (λ e. omega arith)))
+          | inr h ↦ above p h ∙ sym (cond-false (eqb p q) ys (part-of xs p) (ne-eqb p q (λ e. omega arith)))
+        ]
+      ]
 
   pub part-put : part-of (putMid (1024 * q) k xs ys) ≡ at-1 q ys (part-of xs)
   part-put = fun-ext part-at

@@ -48,7 +48,16 @@ impl Head {
             return false;
         }
         let [a, b, c, d] = self.number.to_be_bytes();
-        let head = [first, self.who.id, self.place.file(), self.place.part(), a, b, c, d];
+        let head = [
+            first,
+            self.who.id,
+            self.place.file(),
+            self.place.part(),
+            a,
+            b,
+            c,
+            d,
+        ];
         out[0..8].copy_from_slice(&head);
         true
     }

@@ -2,8 +2,8 @@
 use lines::input::Input;
 use lines::input::Line;
 use lines::output::Output;
-use stage::Stage;
 use script::step::parse;
+use stage::Stage;
 use startup::terms;
 use std::env;
 use std::error::AnyError;

@@ -35,7 +35,13 @@ impl Node {
     {
         let tablet = Tablet::new(heap, who, short)?;
         let file = MemoryStore::new(heap);
-        Ok(Node { who, up: false, short, tablet, file })
+        Ok(Node {
+            who,
+            up: false,
+            short,
+            tablet,
+            file,
+        })
     }
 
     /// Comes up from its journal.
@@ -57,7 +63,13 @@ impl Node {
     }
 
     /// A call in the middle of which it stops: of the record only so many first bytes are left, and nothing leaves.
-    pub fn call_torn(&mut self, clock: u64, place: Place, call: Call, left: u64) -> Result<(), AnyError> {
+    pub fn call_torn(
+        &mut self,
+        clock: u64,
+        place: Place,
+        call: Call,
+        left: u64,
+    ) -> Result<(), AnyError> {
         let outcome = self.tablet.perform(clock, place, call);
         self.up = false;
         match outcome.record {
@@ -79,7 +91,11 @@ fn tear(file: &mut MemoryStore, record: Record, left: u64) -> Result<(), AnyErro
         return Ok(());
     };
     let size = size.min(1032);
-    let end = if left < size as u64 { left as usize } else { size };
+    let end = if left < size as u64 {
+        left as usize
+    } else {
+        size
+    };
     if end > 1032 {
         return Ok(());
     }

@@ -52,7 +52,11 @@ fn bytes(out: &mut Output, part: &[u8; 1024]) -> Result<(), AllocError> {
 /// Prints what a message says, with the part that it carries.
 pub fn message(out: &mut Output, message: Message, part: &[u8; 1024]) -> Result<(), AllocError> {
     match message {
-        Message::Ask { head: h, kind: k, written } => {
+        Message::Ask {
+            head: h,
+            kind: k,
+            written,
+        } => {
             head(out, "ask", h)?;
             kind(out, k)?;
             also(out, u64::from(written))?;
@@ -75,7 +79,12 @@ pub fn message(out: &mut Output, message: Message, part: &[u8; 1024]) -> Result<
 }
 
 /// Prints a message that is sent, by its number.
-pub fn sent(out: &mut Output, number: u64, sent: Message, part: &[u8; 1024]) -> Result<(), AllocError> {
+pub fn sent(
+    out: &mut Output,
+    number: u64,
+    sent: Message,
+    part: &[u8; 1024],
+) -> Result<(), AllocError> {
     out.text("sent ")?;
     out.number(number)?;
     out.text(" ")?;

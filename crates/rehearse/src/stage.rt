@@ -44,7 +44,13 @@ impl Stage {
     /// At first all are down, and every clock shows 0.
     pub fn new(heap: Global, terms: Terms) -> Result<Stage, AllocError> {
         let nodes = cast(heap, terms.short)?;
-        Ok(Stage { heap, terms, time: Rehearsal::new(terms), nodes, sent: 0 })
+        Ok(Stage {
+            heap,
+            terms,
+            time: Rehearsal::new(terms),
+            nodes,
+            sent: 0,
+        })
     }
 
     /// Plays one line; none is a line in no form.
@@ -57,7 +63,12 @@ impl Stage {
         match step {
             Step::Up(name) => self.up(name, out),
             Step::Stop(name) => self.stop(name, out),
-            Step::Call { who, place, act, torn } => self.call(who, place, act, torn, out),
+            Step::Call {
+                who,
+                place,
+                act,
+                torn,
+            } => self.call(who, place, act, torn, out),
             Step::Anew => {
                 self.nodes = cast(self.heap, self.terms.short)?;
                 self.sent = 0;
@@ -108,13 +119,24 @@ impl Stage {
             Name::Keeper => None,
             Name::Borrower(id) => {
                 let i = id as usize;
-                if i < self.nodes.len() && self.nodes[i].up == up { Some(i) } else { None }
+                if i < self.nodes.len() && self.nodes[i].up == up {
+                    Some(i)
+                } else {
+                    None
+                }
             }
         }
     }
 
     // A call of a borrower.
-    fn call(&mut self, who: u8, place: Place, act: Act, torn: Option<u64>, out: &mut Output) -> Result<(), AnyError> {
+    fn call(
+        &mut self,
+        who: u8,
+        place: Place,
+        act: Act,
+        torn: Option<u64>,
+        out: &mut Output,
+    ) -> Result<(), AnyError> {
         let i = who as usize;
         if i >= self.nodes.len() {
             return Ok(print::refused(out, Refusal::Malformed)?);
@@ -142,7 +164,12 @@ impl Stage {
     }
 
     // Prints what is sent, and the answer.
-    fn report(&mut self, outcome: Outcome, bytes: &[u8; 1024], out: &mut Output) -> Result<(), AllocError> {
+    fn report(
+        &mut self,
+        outcome: Outcome,
+        bytes: &[u8; 1024],
+        out: &mut Output,
+    ) -> Result<(), AllocError> {
         if let Some(message) = outcome.send {
             self.sent = self.sent.saturating_add(1);
             print::sent(out, self.sent, message, bytes)?;

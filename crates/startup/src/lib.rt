@@ -25,7 +25,8 @@ impl NoStart {
             NoStart::Unfit(Unfit::RateTooHigh) => "RATE is above 10000",
             NoStart::Unfit(Unfit::ShortTooShort) => "SHORT is below 1",
             NoStart::Unfit(Unfit::LongTooLong) => "LONG is above 3600000",
-            NoStart::Unfit(Unfit::TooClose) => "LONG is too close to SHORT: (SHORT + 1)(1000000 + RATE) + 2000000 is above (LONG - 1)(1000000 - RATE)",
+            NoStart::Unfit(Unfit::TooClose) =>
+                "LONG is too close to SHORT: (SHORT + 1)(1000000 + RATE) + 2000000 is above (LONG - 1)(1000000 - RATE)",
         }
     }
 }

@@ -21,7 +21,8 @@ mod line;
 mod print;
 mod session;
 
-const USAGE: &str = "usage: tablet RATE SHORT LONG BORROWER FILE\nOne borrower's copies of parts, with its journal in FILE; BORROWER is 0 to 31.\nEach line of standard input begins with a reading of its clock:\n  CLOCK                  nothing else\n  CLOCK HEX              a message that came\n  CLOCK ask F P K        asks for part P of file F, K 0 for reading, 1 for writing\n  CLOCK show F P         shows the copy\n  CLOCK write F P HEX    writes the part: 1024 bytes\n  CLOCK forget F P       lets the copy go\nIt prints `send HEX` for each message that it sends, `show F P HEX`, `in F P N` or `void F P N`, and then `done` or `refused N`.\n";
+const USAGE: &str =
+    "usage: tablet RATE SHORT LONG BORROWER FILE\nOne borrower's copies of parts, with its journal in FILE; BORROWER is 0 to 31.\nEach line of standard input begins with a reading of its clock:\n  CLOCK                  nothing else\n  CLOCK HEX              a message that came\n  CLOCK ask F P K        asks for part P of file F, K 0 for reading, 1 for writing\n  CLOCK show F P         shows the copy\n  CLOCK write F P HEX    writes the part: 1024 bytes\n  CLOCK forget F P       lets the copy go\nIt prints `send HEX` for each message that it sends, `show F P HEX`, `in F P N` or `void F P N`, and then `done` or `refused N`.\n";
 
 const WANTED: &str = "five arguments are wanted: RATE SHORT LONG BORROWER FILE";
 
@@ -48,7 +49,8 @@ fn start(rt: &LibcRuntime, short: u64, who: Who, path: &str) -> Result<(), AnyEr
     let mut store = FileStore::open(rt, path)?;
     match open(Owner::Borrower, &mut store, &mut tablet) {
         Ok(()) => serve(rt, Session::new(tablet, store)),
-        Err(OpenError::Malformed) => Err("FILE is no journal of a borrower; it is left as it is".into()),
+        Err(OpenError::Malformed) =>
+            Err("FILE is no journal of a borrower; it is left as it is".into()),
         Err(OpenError::Store(_)) => Err("FILE could not be cut and synced".into()),
     }
 }
@@ -56,13 +58,7 @@ fn start(rt: &LibcRuntime, short: u64, who: Who, path: &str) -> Result<(), AnyEr
 // The borrower that a word names.
 fn borrower(word: &[u8]) -> Option<Who> {
     match number(word) {
-        Some(id) => {
-            if id < 32 {
-                Who::new(id as u8)
-            } else {
-                None
-            }
-        }
+        Some(id) => { if id < 32 { Who::new(id as u8) } else { None } }
         None => None,
     }
 }

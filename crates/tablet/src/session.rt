@@ -20,12 +20,21 @@ pub struct Session<S> {
 
 impl<S: Store> Session<S> {
     pub fn new(tablet: Tablet, store: S) -> Session<S> {
-        Session { tablet, store, last: 0 }
+        Session {
+            tablet,
+            store,
+            last: 0,
+        }
     }
 
     /// A line comes: what the tablet sends, shows, is told and answers is printed. `buffer` is for the bytes of a message or
     /// of a write: one more than the longest message has, so that no longer one is taken for a message.
-    pub fn hear(&mut self, line: &[u8], buffer: &mut [u8], out: &mut Output) -> Result<(), AnyError> {
+    pub fn hear(
+        &mut self,
+        line: &[u8],
+        buffer: &mut [u8],
+        out: &mut Output,
+    ) -> Result<(), AnyError> {
         let Some(said) = parse(line, buffer) else {
             print::refused(out, 1)?;
             return Ok(());
@@ -60,7 +69,13 @@ impl<S: Store> Session<S> {
     }
 
     // An ask or a forget.
-    fn call(&mut self, clock: u64, place: Place, call: Call, out: &mut Output) -> Result<(), AnyError> {
+    fn call(
+        &mut self,
+        clock: u64,
+        place: Place,
+        call: Call,
+        out: &mut Output,
+    ) -> Result<(), AnyError> {
         let Ok(outcome) = self.tablet.call(&mut self.store, clock, place, call) else {
             return Err(NO_JOURNAL.into());
         };
@@ -81,7 +96,13 @@ impl<S: Store> Session<S> {
     }
 
     // A write of the bytes at the front of the buffer.
-    fn write(&mut self, clock: u64, place: Place, buffer: &[u8], out: &mut Output) -> Result<(), AnyError> {
+    fn write(
+        &mut self,
+        clock: u64,
+        place: Place,
+        buffer: &[u8],
+        out: &mut Output,
+    ) -> Result<(), AnyError> {
         if buffer.len() < 1024 {
             return Err("the buffer is too short for a part".into());
         }

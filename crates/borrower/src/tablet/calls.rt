@@ -23,11 +23,29 @@ impl Tablet {
         let record = self.keep(place, next);
         match answer {
             Ok(asked) => {
-                let head = Head { who, place, number: asked.number };
-                let send = Some(Message::Ask { head, kind, written: asked.written });
-                Outcome { record, send, told: None, answer: Ok(()) }
+                let head = Head {
+                    who,
+                    place,
+                    number: asked.number,
+                };
+                let send = Some(Message::Ask {
+                    head,
+                    kind,
+                    written: asked.written,
+                });
+                Outcome {
+                    record,
+                    send,
+                    told: None,
+                    answer: Ok(()),
+                }
             }
-            Err(e) => Outcome { record, send: None, told: None, answer: Err(e) },
+            Err(e) => Outcome {
+                record,
+                send: None,
+                told: None,
+                answer: Err(e),
+            },
         }
     }
 
@@ -38,7 +56,12 @@ impl Tablet {
     {
         let (next, answer) = self.part(place).show(clock, self.short);
         let record = self.keep(place, next);
-        Outcome { record, send: None, told: None, answer }
+        Outcome {
+            record,
+            send: None,
+            told: None,
+            answer,
+        }
     }
 
     /// Writes a part. The bytes go out beside the message, and the copy is released.
@@ -52,9 +75,19 @@ impl Tablet {
         match answer {
             Ok(number) => {
                 let send = Some(Message::Write(Head { who, place, number }));
-                Outcome { record, send, told: None, answer: Ok(()) }
+                Outcome {
+                    record,
+                    send,
+                    told: None,
+                    answer: Ok(()),
+                }
             }
-            Err(e) => Outcome { record, send: None, told: None, answer: Err(e) },
+            Err(e) => Outcome {
+                record,
+                send: None,
+                told: None,
+                answer: Err(e),
+            },
         }
     }
 
@@ -65,7 +98,12 @@ impl Tablet {
     {
         let next = self.part(place).forget();
         let record = self.keep(place, next);
-        Outcome { record, send: None, told: None, answer: Ok(()) }
+        Outcome {
+            record,
+            send: None,
+            told: None,
+            answer: Ok(()),
+        }
     }
 
     /// Any call.

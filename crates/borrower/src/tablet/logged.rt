@@ -27,7 +27,13 @@ fn settle<S: Store>(store: &mut S, record: Option<Record>) -> Result<(), StoreEr
 
 impl Tablet {
     /// A call. Once it is answered, the record of it is in the journal, and synced.
-    pub fn call<S: Store>(&mut self, store: &mut S, clock: u64, place: Place, call: Call) -> Result<Outcome, StoreError>
+    pub fn call<S: Store>(
+        &mut self,
+        store: &mut S,
+        clock: u64,
+        place: Place,
+        call: Call,
+    ) -> Result<Outcome, StoreError>
         ensures effect { λ r. ⌜ made r (λ o. (v : List ℕ) → effect v o ≡ call-effect (now (self .entry) .who .id) (place .at) v clock (now (self .entry) .short) call (part-at (now (self .entry)) (place .at)) (filed-at (now (self .entry)) (place .at))) ⌝ }
         ensures left { λ _. ⌜ Stepped (now (self .entry)) (now (self .exit)) (place .at) (call-part clock (now (self .entry) .short) call (part-at (now (self .entry)) (place .at))) ⌝ }
         ensures logged { λ r. ⌜ made r (λ o. Logged (recorded-by (o .record)) (appended (now (store .entry))) (synced (now (store .entry))) (appended (now (store .exit))) (synced (now (store .exit)))) ⌝ }

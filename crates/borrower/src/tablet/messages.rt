@@ -20,7 +20,12 @@ use part::who::Who;
 fn turned_away() -> Outcome
     ensures { λ r. ⌜ effect [] r ≡ turned-away ⌝ }
 {
-    Outcome { record: None, send: None, told: None, answer: Err(Refusal::Malformed) }
+    Outcome {
+        record: None,
+        send: None,
+        told: None,
+        answer: Err(Refusal::Malformed),
+    }
 }
 
 impl Tablet {
@@ -37,9 +42,19 @@ impl Tablet {
         match answer {
             Ok(_) => {
                 self.put_copy(head.place, bytes);
-                Outcome { record, send: None, told: None, answer: Ok(()) }
+                Outcome {
+                    record,
+                    send: None,
+                    told: None,
+                    answer: Ok(()),
+                }
             }
-            Err(e) => Outcome { record, send: None, told: None, answer: Err(e) },
+            Err(e) => Outcome {
+                record,
+                send: None,
+                told: None,
+                answer: Err(e),
+            },
         }
     }
 
@@ -54,7 +69,12 @@ impl Tablet {
         let (next, number) = self.part(place).on_recall();
         let record = self.keep(place, next);
         let send = Some(Message::Back(Head { who, place, number }));
-        Outcome { record, send, told: None, answer: Ok(()) }
+        Outcome {
+            record,
+            send,
+            told: None,
+            answer: Ok(()),
+        }
     }
 
     // The writer is told that its write is in.
@@ -64,7 +84,12 @@ impl Tablet {
         if head.who.id != self.who.id {
             return turned_away();
         }
-        Outcome { record: None, send: None, told: Some(Message::In(head)), answer: Ok(()) }
+        Outcome {
+            record: None,
+            send: None,
+            told: Some(Message::In(head)),
+            answer: Ok(()),
+        }
     }
 
     // The writer is told that its write is void.
@@ -74,7 +99,12 @@ impl Tablet {
         if head.who.id != self.who.id {
             return turned_away();
         }
-        Outcome { record: None, send: None, told: Some(Message::Void(head)), answer: Ok(()) }
+        Outcome {
+            record: None,
+            send: None,
+            told: Some(Message::Void(head)),
+            answer: Ok(()),
+        }
     }
 
     /// A message comes. What is no message, or none for this borrower, is refused by 1.

@@ -20,11 +20,25 @@ impl Tablet {
         ensures { λ r. ⌜ made r (λ t. Fresh who short t) ⌝ }
     {
         let mut parts = Vec::new(heap);
-        parts.resize(16384, Part { ask: 0, write: 0, asked: 0, hold: Hold::Nothing })?;
+        parts.resize(
+            16384,
+            Part {
+                ask: 0,
+                write: 0,
+                asked: 0,
+                hold: Hold::Nothing,
+            },
+        )?;
         let mut filed = Vec::new(heap);
         filed.resize(16384, OnFile { ask: 0, write: 0 })?;
         let copies = Files::new(heap)?;
-        Ok(Tablet { who, short, parts, filed, copies })
+        Ok(Tablet {
+            who,
+            short,
+            parts,
+            filed,
+            copies,
+        })
     }
 
     /// The bytes of a copy; they may be shown only where `show` said so.

@@ -79,6 +79,10 @@ impl Tablet {
         }
         let raised = filed.raised(next);
         self.put_filed(place, raised);
-        Some(Record::Numbers { place, ask: raised.ask, write: raised.write })
+        Some(Record::Numbers {
+            place,
+            ask: raised.ask,
+            write: raised.write,
+        })
     }
 }

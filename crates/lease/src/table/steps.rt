@@ -42,14 +42,14 @@ impl Table {
     pub fn bars(&self, clock: u64, who: Who, place: Place, kind: Kind) -> bool
         ensures { λ r. ⌜ r ≡ any (barring clock (who .id) (place .at) kind) (leases (now (self .entry))) ⌝ }
     {
-        some(&self.leases, &Bars { clock, who, place, kind })
+        some(&self.leases, &Bars::of(clock, who, place, kind))
     }
 
     /// Which borrowers have a lease that stands in the way of a loan.
     pub fn barring(&self, clock: u64, who: Who, place: Place, kind: Kind) -> [bool; 32]
         ensures { λ r. ⌜ r ≡ marks-of (barring clock (who .id) (place .at) kind) (leases (now (self .entry))) ⌝ }
     {
-        marks(&self.leases, &Bars { clock, who, place, kind })
+        marks(&self.leases, &Bars::of(clock, who, place, kind))
     }
 
     /// Whether a borrower may write a part.

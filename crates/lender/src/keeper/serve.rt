@@ -65,7 +65,12 @@ impl Keeper {
     }
 
     /// A message comes. Once it is answered, the record of it is in the journal, and synced.
-    pub fn serve<S: Store>(&mut self, store: &mut S, clock: u64, bytes: &[u8]) -> Result<Reply, StoreError>
+    pub fn serve<S: Store>(
+        &mut self,
+        store: &mut S,
+        clock: u64,
+        bytes: &[u8],
+    ) -> Result<Reply, StoreError>
         ensures effect { λ r. ⌜ made r (λ reply. effect (keeper-parts (now (self .exit))) reply ≡ heard-effect clock (read (now (bytes .entry))) (keeper-book (now (self .entry))) (keeper-parts (now (self .entry)))) ⌝ }
         ensures book { λ _. ⌜ keeper-book (now (self .exit)) ≡ heard-book clock (read (now (bytes .entry))) (keeper-book (now (self .entry))) ⌝ }
         ensures parts { λ _. ⌜ keeper-parts (now (self .exit)) ≡ heard-parts clock (read (now (bytes .entry))) (keeper-book (now (self .entry))) (keeper-parts (now (self .entry))) ⌝ }

@@ -72,7 +72,8 @@ impl Lender {
         if self.table.running(clock) >= MOST {
             return AskAnswer::Exhausted;
         }
-        let voids = self.done(head.who, head.place) < written && self.voided(head.who, head.place) < written;
+        let voids = self.done(head.who, head.place) < written
+            && self.voided(head.who, head.place) < written;
         AskAnswer::Granted { voids }
     }
 }

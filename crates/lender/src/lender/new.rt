@@ -19,7 +19,12 @@ impl Lender {
         let table = Table::new(heap)?;
         let mut numbers = Vec::new(heap);
         numbers.resize(16384, Numbers::none())?;
-        Ok(Lender { numbers, table, quiet: 0, long })
+        Ok(Lender {
+            numbers,
+            table,
+            quiet: 0,
+            long,
+        })
     }
 
     /// Comes up: no leases, and a grace period; false, and nothing changes, where that would pass 64 bits.

@@ -25,7 +25,11 @@ use part::head::Head;
 fn turned_away() -> Reply
     ensures { λ r. ⌜ ((f : ℕ → List ℕ) → effect f r ≡ turned-away) ⌝ }
 {
-    Reply { record: None, sends: Sends::Nothing, answer: Err(Refusal::Malformed) }
+    Reply {
+        record: None,
+        sends: Sends::Nothing,
+        answer: Err(Refusal::Malformed),
+    }
 }
 
 // The reply to an ask.
@@ -35,13 +39,37 @@ fn ask_reply(head: Head, kind: Kind, written: u32, answer: AskAnswer) -> Reply
     let place = head.place;
     match answer {
         AskAnswer::Granted { voids: true } => {
-            let until = Head { who: head.who, place, number: written };
-            Reply { record: Some(Record::VoidUpTo(until)), sends: Sends::One(Message::Loan { head, kind }), answer: Ok(()) }
+            let until = Head {
+                who: head.who,
+                place,
+                number: written,
+            };
+            Reply {
+                record: Some(Record::VoidUpTo(until)),
+                sends: Sends::One(Message::Loan { head, kind }),
+                answer: Ok(()),
+            }
         }
-        AskAnswer::Granted { voids: false } => Reply { record: None, sends: Sends::One(Message::Loan { head, kind }), answer: Ok(()) },
-        AskAnswer::Quiet => Reply { record: None, sends: Sends::Nothing, answer: Err(Refusal::Quiet) },
-        AskAnswer::Barred { by } => Reply { record: None, sends: Sends::Recalls { place, by }, answer: Err(Refusal::Barred) },
-        AskAnswer::Exhausted => Reply { record: None, sends: Sends::Nothing, answer: Err(Refusal::Exhausted) },
+        AskAnswer::Granted { voids: false } => Reply {
+            record: None,
+            sends: Sends::One(Message::Loan { head, kind }),
+            answer: Ok(()),
+        },
+        AskAnswer::Quiet => Reply {
+            record: None,
+            sends: Sends::Nothing,
+            answer: Err(Refusal::Quiet),
+        },
+        AskAnswer::Barred { by } => Reply {
+            record: None,
+            sends: Sends::Recalls { place, by },
+            answer: Err(Refusal::Barred),
+        },
+        AskAnswer::Exhausted => Reply {
+            record: None,
+            sends: Sends::Nothing,
+            answer: Err(Refusal::Exhausted),
+        },
     }
 }
 
@@ -51,11 +79,31 @@ fn write_reply(head: Head, answer: WriteAnswer) -> Reply
 {
     let result = answer.result();
     match answer {
-        WriteAnswer::Applied => Reply { record: Some(Record::Applied(head)), sends: Sends::One(Message::In(head)), answer: result },
-        WriteAnswer::Again => Reply { record: None, sends: Sends::One(Message::In(head)), answer: result },
-        WriteAnswer::Void => Reply { record: None, sends: Sends::One(Message::Void(head)), answer: result },
-        WriteAnswer::Passed => Reply { record: None, sends: Sends::Nothing, answer: result },
-        WriteAnswer::Quiet => Reply { record: None, sends: Sends::Nothing, answer: result },
+        WriteAnswer::Applied => Reply {
+            record: Some(Record::Applied(head)),
+            sends: Sends::One(Message::In(head)),
+            answer: result,
+        },
+        WriteAnswer::Again => Reply {
+            record: None,
+            sends: Sends::One(Message::In(head)),
+            answer: result,
+        },
+        WriteAnswer::Void => Reply {
+            record: None,
+            sends: Sends::One(Message::Void(head)),
+            answer: result,
+        },
+        WriteAnswer::Passed => Reply {
+            record: None,
+            sends: Sends::Nothing,
+            answer: result,
+        },
+        WriteAnswer::Quiet => Reply {
+            record: None,
+            sends: Sends::Nothing,
+            answer: result,
+        },
     }
 }
 
@@ -89,7 +137,11 @@ impl Lender {
             return turned_away();
         };
         match message {
-            Message::Ask { head, kind, written } => self.on_ask(clock, head, kind, written),
+            Message::Ask {
+                head,
+                kind,
+                written,
+            } => self.on_ask(clock, head, kind, written),
             Message::Write(head) => {
                 let Some(part) = carried_part(bytes) else {
                     return turned_away();
@@ -98,7 +150,11 @@ impl Lender {
             }
             Message::Back(head) => {
                 self.back(head);
-                Reply { record: None, sends: Sends::Nothing, answer: Ok(()) }
+                Reply {
+                    record: None,
+                    sends: Sends::Nothing,
+                    answer: Ok(()),
+                }
             }
             Message::Loan { .. } => turned_away(),
             Message::In(_) => turned_away(),

@@ -21,7 +21,8 @@ impl Lender {
     pub(crate) fn set_done(&mut self, head: Head)
         ensures { λ _. ⌜ book (now (self .exit)) ≡ applied (head .who .id) (head .place .at) (head .number) (book (now (self .entry))) ⌝ }
     {
-        self.numbers[head.place.at as usize].apply(head.who, head.number);
+        self.numbers[head.place.at as usize]
+            .apply(head.who, head.number);
     }
 
     // The writes up to this number are void.
@@ -38,7 +39,13 @@ impl Lender {
         ensures { λ _. ⌜ book (now (self .exit)) ≡ with-lease clock (head .who .id) (head .place .at) (head .number) kind (book (now (self .entry))) ⌝ }
     {
         let until = clock + self.long;
-        let lease = Lease { who: head.who.id, place: head.place.at, kind, number: head.number, until };
+        let lease = Lease {
+            who: head.who.id,
+            place: head.place.at,
+            kind,
+            number: head.number,
+            until,
+        };
         let _ = self.table.grant(clock, lease);
     }
 
@@ -67,7 +74,13 @@ impl Lender {
     }
 
     /// A write: judged, and applied where a lease lets it.
-    pub fn write(&mut self, files: &mut Files, clock: u64, head: Head, bytes: &[u8; 1024]) -> WriteAnswer
+    pub fn write(
+        &mut self,
+        files: &mut Files,
+        clock: u64,
+        head: Head,
+        bytes: &[u8; 1024],
+    ) -> WriteAnswer
         ensures answer { λ r. ⌜ r ≡ write-answer clock (head .who .id) (head .place .at) (head .number) (book (now (self .entry))) ⌝ }
         ensures after { λ r. ⌜ book (now (self .exit)) ≡ after-write (head .who .id) (head .place .at) (head .number) r (book (now (self .entry))) ⌝ }
         ensures parts { λ r. ⌜ parts (now (files .exit)) ≡ parts-after (head .place .at) (now (bytes .entry)) r (parts (now (files .entry))) ⌝ }

@@ -19,7 +19,8 @@ returns-in-Ask c =
     record {
       formed = λ _. rw s (p .named, q .small);
       wrote = ask-wrote (i .head .who .id) (i .head .place .at) (i .head .number) xs _ (there _ _ _ _ _ _ (p .fits) (omega arith) (p .after))
-    (i .kind) (i .written) _ _ _ s l (c .byte .ensures) (there _ _ _ _ _ _ (q .fits) (search needs) (q .after)) }
+          (i .kind) (i .written) _ _ _ s l (c .byte .ensures) (there _ _ _ _ _ _ (q .fits) (search needs) (q .after));
+    }
 
 pub returns-in-Loan : need.returns-in-Loan
 returns-in-Loan c =
@@ -32,8 +33,9 @@ returns-in-Loan c =
     record {
       formed = λ _. rw s (p .named, lv);
       wrote = loan-wrote (i .head .who .id) (i .head .place .at) (i .head .number) xs _ (there _ _ _ _ _ _ (p .fits) (omega arith) (p .after))
-    (i .kind) (c .args .part .now) _ _ _ s l lv (c .byte-in-Loan .ensures)
-    (put-mid 9 _ _ _ (c .args .part .now) (c .copy-from-slice .ensures .after) lv) }
+          (i .kind) (c .args .part .now) _ _ _ s l lv (c .byte-in-Loan .ensures)
+          (put-mid 9 _ _ _ (c .args .part .now) (c .copy-from-slice .ensures .after) lv);
+    }
 
 pub returns-in-Write : need.returns-in-Write
 returns-in-Write c =
@@ -46,5 +48,6 @@ returns-in-Write c =
     record {
       formed = λ _. rw s (p .named, lv);
       wrote = write-wrote (i .head .who .id) (i .head .place .at) (i .head .number) xs _ (there _ _ _ _ _ _ (p .fits) (omega arith) (p .after))
-    (c .args .part .now) _ _ s lv
-    (put-mid 8 _ _ _ (c .args .part .now) (c .copy-from-slice-in-Write .ensures .after) lv) }
+          (c .args .part .now) _ _ s lv
+          (put-mid 8 _ _ _ (c .args .part .now) (c .copy-from-slice-in-Write .ensures .after) lv);
+    }

@@ -7,4 +7,5 @@ returns c =
     record {
       inside = omega arith;
       small = c .from-be-bytes .ok;
-      bytes = stand (c .args .bytes .now) (c .args .at) _ (omega arith) (λ i. c .typed .bytes i .fits) (c .from-be-bytes .ensures) }
+      bytes = stand (c .args .bytes .now) (c .args .at) _ (omega arith) (λ i. c .typed .bytes i .fits) (c .from-be-bytes .ensures);
+    }

@@ -11,4 +11,5 @@ returns c =
     record {
       small = search needs;
       fits = sym (le-leb _ _ (omega arith));
-      after = put-mid (c .args .at) _ _ _ (four (c .args .number)) (c .copy-from-slice .ensures .after ∙ c .to-be-bytes-four .ensures) (omega arith) }
+      after = put-mid (c .args .at) _ _ _ (four (c .args .number)) (c .copy-from-slice .ensures .after ∙ c .to-be-bytes-four .ensures) (omega arith);
+    }

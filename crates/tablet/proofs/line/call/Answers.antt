@@ -20,4 +20,4 @@ returns-in-Some-more c =
     let third = c .split-3 .ensures .words ∙ ap (λ (o : Option (RefT (List ℕ))). x ∷ rest-words o) (c .in-Some-more .is) in
     let fourth = words-split (c .in-Some-more .field-0 .now) in
     sym (ap (λ (ws : List (List ℕ)). act-of (v ∷ ws))
-      (first ∙ ap (λ (ws : List (List ℕ)). f ∷ ws) (second ∙ ap (λ (ws : List (List ℕ)). p ∷ ws) (third ∙ ap (λ (ws : List (List ℕ)). x ∷ ws) fourth))))
+    (first ∙ ap (λ (ws : List (List ℕ)). f ∷ ws) (second ∙ ap (λ (ws : List (List ℕ)). p ∷ ws) (third ∙ ap (λ (ws : List (List ℕ)). x ∷ ws) fourth))))

@@ -25,4 +25,5 @@ returns c =
       filed = all-same fs no-numbers 16384 fl (λ k d h. c .resize-2 .ensures .places .1 k d (ap isOk (c .in-Continue-resize-2 .was tt)) (omega arith) h);
       copies = c .in-Continue-copies .ensures tt;
       short = refl;
-      who = refl }
+      who = refl;
+    }

@@ -18,8 +18,8 @@ returns-in-Err c =
     let q = c .args .head .place .at in
     let cs = copy-at (c .args .self .now) in
     let refused =
-        ap (λ (p : Part). loan-of (c .args .head .number) (c .args .kind) p .1) (sym (c .part .ensures))
-        ∙ ap (λ (r : Part × Result (Unit {0}) Refusal). r .1) (sym (c .on-loan-answer .ensures)) ∙ c .in-Err .is in
+    ap (λ (p : Part). loan-of (c .args .head .number) (c .args .kind) p .1) (sym (c .part .ensures))
+    ∙ ap (λ (r : Part × Result (Unit {0}) Refusal). r .1) (sym (c .on-loan-answer .ensures)) ∙ c .in-Err .is in
     let same = ap (λ (r : Result (Unit {0}) Refusal). taken q (c .args .bytes .now) r cs) refused in
     record {
       effect = search needs;
@@ -28,4 +28,6 @@ returns-in-Err c =
         filed = search needs;
         copies = c .keep-record .ensures .left .copies ∙ sym (cond-true (eqb (c .args .head .who .id) (c .args .self .now .who .id)) _ _ (eq-eqb _ _ (search needs)) ∙ same);
         short = search needs;
-        who = search needs } }
+        who = search needs;
+      };
+    }

@@ -12,15 +12,19 @@ pub loop-l-again : need.loop-l-again
 loop-l-again g c =
     let p = g .T·Test .passes (c .args .test .now) in
     elim (c .if-test .came) [
-      then-test w ↦
-        ( w .n-is ∙ ap (λ k. k + 1) (c .loop-l .inv .0) ∙ sym (countBy-more-yes p _ _ no-lease (c .loop-l-test .taken) (sym (w .if-test .ensures tt)))
-        , omega (arith, w .n-is) )
-    | else-test w ↦
-        ( w .n-is ∙ c .loop-l .inv .0 ∙ sym (countBy-more-no p _ _ no-lease (c .loop-l-test .taken) (sym (w .if-test .ensures tt)))
-        , omega (arith, w .n-is) ) ]
+      | then-test w ↦ (
+        w .n-is ∙ ap (λ k. k + 1) (c .loop-l .inv .0) ∙ sym (countBy-more-yes p _ _ no-lease (c .loop-l-test .taken) (sym (w .if-test .ensures tt))),
+        omega (arith, w .n-is),
+      )
+      | else-test w ↦ (
+        w .n-is ∙ c .loop-l .inv .0 ∙ sym (countBy-more-no p _ _ no-lease (c .loop-l-test .taken) (sym (w .if-test .ensures tt))),
+        omega (arith, w .n-is),
+      )
+    ]
 
 pub returns : need.returns
 returns g c =
     record {
       is = c .loop-l .inv .0 ∙ ap (countBy (g .T·Test .passes (c .args .test .now))) (take-all _ _ (c .loop-l-test .left));
-      most = omega arith }
+      most = omega arith;
+    }

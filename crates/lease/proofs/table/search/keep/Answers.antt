@@ -11,8 +11,9 @@ pub loop-i-again : need.loop-i-again
 loop-i-again g c =
     let in′ : c .loop-i .i < length (vec-items (c .loop-i .leases)) = omega arith in
     elim (c .if-test .came) [
-      then-test w ↦ rw (w .leases-is, w .k-is) (keeping-more-set (c .loop-i .inv .0) in′ (sym (w .if-test .ensures tt)) (c .index-l .ensures), c .loop-i .inv .1)
-    | else-test w ↦ rw (w .leases-is, w .k-is) (keeping-more-no (c .loop-i .inv .0) in′ (sym (w .if-test .ensures tt)) (c .index-l .ensures), c .loop-i .inv .1) ]
+      | then-test w ↦ rw (w .leases-is, w .k-is) (keeping-more-set (c .loop-i .inv .0) in′ (sym (w .if-test .ensures tt)) (c .index-l .ensures), c .loop-i .inv .1)
+      | else-test w ↦ rw (w .leases-is, w .k-is) (keeping-more-no (c .loop-i .inv .0) in′ (sym (w .if-test .ensures tt)) (c .index-l .ensures), c .loop-i .inv .1)
+    ]
 
 pub returns : need.returns
 returns g c =

@@ -21,17 +21,18 @@ loop-l-holds g c = marked-none 32 _ _ _ refl (λ w l. getD-replicate 32 w false 
 pub loop-l-again : need.loop-l-again
 loop-l-again g c =
     elim (c .if-test .came) [
-      then-test·then-w-lt32 w ↦
-        rw (w .marks-is)
-        (marked-more-yes no-lease _ (c .loop-l-test .taken) (w .if-w-lt32 .taken)
+      | then-test·then-w-lt32 w ↦
+          rw (w .marks-is)
+          (marked-more-yes no-lease _ (c .loop-l-test .taken) (w .if-w-lt32 .taken)
           (and-from _ _ (sym (w .if-test .ensures tt)) (eq-eqb _ _ refl))
           (λ v ne. and-right _ _ (ne-eqb _ _ (λ e. ne (sym e)))) (c .loop-l .inv))
-    | then-test·else-w-lt32 w ↦
-        rw (w .marks-is)
-        (marked-more-no no-lease (c .loop-l-test .taken) (λ v l. and-right _ _ (past _ _ 32 (w .if-w-lt32 .left) l)) (c .loop-l .inv))
-    | else-test w ↦
-        rw (w .marks-is)
-        (marked-more-no no-lease (c .loop-l-test .taken) (λ v l. and-left _ _ (sym (w .if-test .ensures tt))) (c .loop-l .inv)) ]
+      | then-test·else-w-lt32 w ↦
+          rw (w .marks-is)
+          (marked-more-no no-lease (c .loop-l-test .taken) (λ v l. and-right _ _ (past _ _ 32 (w .if-w-lt32 .left) l)) (c .loop-l .inv))
+      | else-test w ↦
+          rw (w .marks-is)
+          (marked-more-no no-lease (c .loop-l-test .taken) (λ v l. and-left _ _ (sym (w .if-test .ensures tt))) (c .loop-l .inv))
+    ]
 
 pub returns : need.returns
 unfolding marks-of

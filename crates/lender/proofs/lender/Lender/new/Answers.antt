@@ -18,9 +18,10 @@ pub returns : need.returns
 returns c =
     let rows = vec-items (c .resize .last .self) in
     let at : (p : ℕ) → getD rows p no-numbers ≡ no-numbers =
-        λ p. elim (cases-lt p 16384) [
-            inl h ↦ c .resize .ensures .places .1 p no-numbers (ap isOk (c .in-Continue-resize .was tt)) (omega arith) h ∙ c .none .ensures
-          | inr h ↦ getD-past rows p no-numbers (omega arith) ] in
+    λ p. elim (cases-lt p 16384) [
+      | inl h ↦ c .resize .ensures .places .1 p no-numbers (ap isOk (c .in-Continue-resize .was tt)) (omega arith) h ∙ c .none .ensures
+      | inr h ↦ getD-past rows p no-numbers (omega arith)
+    ] in
     same-book _ _
     (fun-ext (λ p. fun-ext (λ w. ap (λ n. getD (n .done) w 0) (at p) ∙ zero 32 w)))
     (fun-ext (λ p. fun-ext (λ w. ap (λ n. getD (n .voided) w 0) (at p) ∙ zero 32 w)))

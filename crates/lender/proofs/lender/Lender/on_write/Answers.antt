@@ -24,4 +24,5 @@ returns c =
           ∙ same-effect i q n v f (parts (c .write-answer .last .files)) (c .write-answer .result) (w .parts)
           ∙ ap (λ (a : WriteAnswer). write-effect i q n v a) (w .answer);
       book = w .after ∙ ap (λ (a : WriteAnswer). after-write i q n a (book (c .args .self .now))) (w .answer);
-      parts = w .parts ∙ ap (λ (a : WriteAnswer). parts-after q v a f) (w .answer) }
+      parts = w .parts ∙ ap (λ (a : WriteAnswer). parts-after q v a f) (w .answer);
+    }

@@ -17,9 +17,9 @@ returns c =
     let row = getD-read rows (c .args .head .place .at) (c .index-mut .result .now) inside (c .index-mut .ensures .value) no-numbers in
     let next = c .apply .last .self in
     let put =
-        pair-put (λ (k : Numbers). k .done) no-numbers rows (c .args .head .place .at) (c .args .head .who .id) (c .args .head .number) next
-        (ap (λ (k : Numbers). k .done) (c .apply .ensures .whole) ∙ ap (λ (k : Numbers). set (k .done) (c .args .head .who .id) (c .args .head .number)) row) inside (c .apply .ensures .here) in
+    pair-put (λ (k : Numbers). k .done) no-numbers rows (c .args .head .place .at) (c .args .head .who .id) (c .args .head .number) next
+    (ap (λ (k : Numbers). k .done) (c .apply .ensures .whole) ∙ ap (λ (k : Numbers). set (k .done) (c .args .head .who .id) (c .args .head .number)) row) inside (c .apply .ensures .here) in
     let keep =
-        pair-keep (λ (k : Numbers). k .voided) no-numbers rows (c .args .head .place .at) next
-        (ap (λ (k : Numbers). k .voided) (c .apply .ensures .whole) ∙ ap (λ (k : Numbers). k .voided) row) inside in
+    pair-keep (λ (k : Numbers). k .voided) no-numbers rows (c .args .head .place .at) next
+    (ap (λ (k : Numbers). k .voided) (c .apply .ensures .whole) ∙ ap (λ (k : Numbers). k .voided) row) inside in
     same-book _ _ put keep refl refl refl

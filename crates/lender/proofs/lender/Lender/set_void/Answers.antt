@@ -17,9 +17,9 @@ returns c =
     let row = getD-read rows (c .args .place .at) (c .index-mut .result .now) inside (c .index-mut .ensures .value) no-numbers in
     let next = c .void .last .self in
     let put =
-        pair-put (λ (k : Numbers). k .voided) no-numbers rows (c .args .place .at) (c .args .who .id) (c .args .number) next
-        (ap (λ (k : Numbers). k .voided) (c .void .ensures .whole) ∙ ap (λ (k : Numbers). set (k .voided) (c .args .who .id) (c .args .number)) row) inside (c .void .ensures .here) in
+    pair-put (λ (k : Numbers). k .voided) no-numbers rows (c .args .place .at) (c .args .who .id) (c .args .number) next
+    (ap (λ (k : Numbers). k .voided) (c .void .ensures .whole) ∙ ap (λ (k : Numbers). set (k .voided) (c .args .who .id) (c .args .number)) row) inside (c .void .ensures .here) in
     let keep =
-        pair-keep (λ (k : Numbers). k .done) no-numbers rows (c .args .place .at) next
-        (ap (λ (k : Numbers). k .done) (c .void .ensures .whole) ∙ ap (λ (k : Numbers). k .done) row) inside in
+    pair-keep (λ (k : Numbers). k .done) no-numbers rows (c .args .place .at) next
+    (ap (λ (k : Numbers). k .done) (c .void .ensures .whole) ∙ ap (λ (k : Numbers). k .done) row) inside in
     same-book _ _ keep put refl refl refl

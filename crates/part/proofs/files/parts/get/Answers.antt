@@ -11,4 +11,5 @@ returns c =
     let e : (a + 1024) - a ≡ 1024 = omega arith in
     record {
       is = ap (λ n. take n (drop a (c .args .files .now))) e ∙ ap (λ (i : ℕ). take 1024 (drop i (c .args .files .now))) (c .start-a .ensures);
-      len = search needs }
+      len = search needs;
+    }
