@@ -2,6 +2,7 @@ ghost use mathlib.Core.Path.{_≡_};
 ghost use Rattle.std.specs.Of.Vec.{vec-len};
 use crate::hold::OnFile;
 use crate::hold::Part;
+use journal::replay::OpenError;
 use part::files::Files;
 use part::who::Who;
 
@@ -21,4 +22,13 @@ pub struct Tablet {
     copies: Files,
     ghost parts_all: { vec-len parts ≡ 16384 },
     ghost filed_all: { vec-len filed ≡ 16384 },
+}
+
+/// Why there is no tablet.
+#[derive(Clone, Copy)]
+pub enum NoTablet {
+    /// there is no memory for the parts
+    NoMemory,
+    /// its journal could not be opened
+    NoJournal(OpenError),
 }

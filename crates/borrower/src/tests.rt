@@ -5,9 +5,6 @@ use crate::hold::Part;
 use crate::outcome::Call;
 use crate::outcome::Outcome;
 use crate::tablet::Tablet;
-use crate::tablet::open::TabletJournaled;
-use journal::record::Owner;
-use journal::replay::open;
 use journal::store::Store;
 use journal::store::failing::FailingIsStore;
 use journal::store::failing::FailingStore;
@@ -131,8 +128,9 @@ fn numbers_only_rise(rt: LibcRuntime) -> Result<(), Fail> {
     let mut store = MemoryStore::new(rt.alloc());
     let mut last = 0;
     for _ in 0..5 {
-        let mut tablet = Tablet::new(rt.alloc(), who, 100)?;
-        check(open(Owner::Borrower, &mut store, &mut tablet).is_ok())?;
+        let Ok(mut tablet) = Tablet::open(rt.alloc(), who, 100, &mut store) else {
+            return Err(Fail::new("not opened"));
+        };
         for _ in 0..70 {
             let Ok(outcome) = tablet.call(&mut store, 1000, place, Call::Ask(Kind::Reading)) else {
                 return Err(Fail::new("not written"));

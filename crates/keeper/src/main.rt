@@ -1,11 +1,9 @@
 // The keeper, by lines: messages come in on standard input with readings of its clock, and what it sends goes out.
-use journal::record::Owner;
 use journal::replay::OpenError;
-use journal::replay::open;
 use journal::store::file::FileIsStore;
 use journal::store::file::FileStore;
 use lender::keeper::Keeper;
-use lender::keeper::open::KeeperJournaled;
+use lender::keeper::NoKeeper;
 use lines::input::Input;
 use lines::input::Line;
 use lines::output::Output;
@@ -41,13 +39,16 @@ fn serve(rt: &LibcRuntime, mut session: Session<FileStore>) -> Result<(), AnyErr
 }
 
 fn start(rt: &LibcRuntime, long: u64, path: &str) -> Result<(), AnyError> {
-    let mut keeper = Keeper::new(rt.alloc(), long)?;
     let mut store = FileStore::open(rt, path)?;
-    match open(Owner::Keeper, &mut store, &mut keeper) {
-        Ok(()) => serve(rt, Session::new(keeper, store)),
-        Err(OpenError::Malformed) =>
-            Err("FILE is no journal of a keeper; it is left as it is".into()),
-        Err(OpenError::Store(_)) => Err("FILE could not be cut and synced".into()),
+    match Keeper::open(rt.alloc(), long, &mut store) {
+        Ok(keeper) => serve(rt, Session::new(keeper, store)),
+        Err(NoKeeper::NoMemory) => Err("there is no memory for the parts".into()),
+        Err(NoKeeper::NoJournal(OpenError::Malformed)) => {
+            Err("FILE is no journal of a keeper; it is left as it is".into())
+        }
+        Err(NoKeeper::NoJournal(OpenError::Store(_))) => {
+            Err("FILE could not be cut and synced".into())
+        }
     }
 }
 

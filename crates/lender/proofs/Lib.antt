@@ -2,3 +2,4 @@ pub mod Pairs
 pub mod Books
 pub mod Effects
 pub mod Kept
+pub mod OnDisk

@@ -5,3 +5,4 @@ pub mod Room
 pub mod Rules
 pub mod Replies
 pub mod Replay
+pub mod OnDisk

@@ -1,9 +1,6 @@
 // What no contract says: that the keeper runs as it is proved to, at the edges of its table and on a long journal.
 use crate::keeper::Keeper;
-use crate::keeper::open::KeeperJournaled;
-use journal::record::Owner;
 use journal::record::Record;
-use journal::replay::open;
 use journal::store::Store;
 use journal::store::memory::MemoryStore;
 use journal::store::memory::calls::MemoryIsStore;
@@ -96,9 +93,10 @@ fn a_long_journal_is_replayed(rt: LibcRuntime) -> Result<(), Fail> {
         bytes.extend_from_slice(&record)?;
     }
     bytes.extend_from_slice(&[8, 0, 0])?;
-    let mut keeper = Keeper::new(rt.alloc(), 110)?;
     let mut store = MemoryStore::holding(bytes);
-    check(open(Owner::Keeper, &mut store, &mut keeper).is_ok())?;
+    let Ok(mut keeper) = Keeper::open(rt.alloc(), 110, &mut store) else {
+        return Err(Fail::new("not opened"));
+    };
     check_eq(store.content().len(), 80000).note("the torn record is cut")?;
     check(keeper.come_up(5))?;
     let Some(last) = head(16, 7, 10000) else {

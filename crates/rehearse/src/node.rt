@@ -4,11 +4,8 @@ ghost use Rattle.std.specs.Vec.{made};
 use borrower::outcome::Call;
 use borrower::outcome::Outcome;
 use borrower::tablet::Tablet;
-use borrower::tablet::open::TabletJournaled;
-use journal::record::Owner;
 use journal::record::Record;
 use journal::record::encode;
-use journal::replay::open;
 use journal::store::Store;
 use journal::store::memory::MemoryStore;
 use journal::store::memory::calls::MemoryIsStore;
@@ -46,10 +43,10 @@ impl Node {
 
     /// Comes up from its journal.
     pub fn come_up(&mut self, heap: Global) -> Result<(), AnyError> {
-        self.tablet = Tablet::new(heap, self.who, self.short)?;
-        let Ok(()) = open(Owner::Borrower, &mut self.file, &mut self.tablet) else {
+        let Ok(tablet) = Tablet::open(heap, self.who, self.short, &mut self.file) else {
             return Err("a journal in memory could not be opened".into());
         };
+        self.tablet = tablet;
         self.up = true;
         Ok(())
     }

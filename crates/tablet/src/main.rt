@@ -1,9 +1,7 @@
 // A tablet, by lines: calls and messages come in on standard input with readings of its clock, and what it sends and shows goes out.
+use borrower::tablet::NoTablet;
 use borrower::tablet::Tablet;
-use borrower::tablet::open::TabletJournaled;
-use journal::record::Owner;
 use journal::replay::OpenError;
-use journal::replay::open;
 use journal::store::file::FileIsStore;
 use journal::store::file::FileStore;
 use lines::decimal::number;
@@ -45,13 +43,16 @@ fn serve(rt: &LibcRuntime, mut session: Session<FileStore>) -> Result<(), AnyErr
 }
 
 fn start(rt: &LibcRuntime, short: u64, who: Who, path: &str) -> Result<(), AnyError> {
-    let mut tablet = Tablet::new(rt.alloc(), who, short)?;
     let mut store = FileStore::open(rt, path)?;
-    match open(Owner::Borrower, &mut store, &mut tablet) {
-        Ok(()) => serve(rt, Session::new(tablet, store)),
-        Err(OpenError::Malformed) =>
-            Err("FILE is no journal of a borrower; it is left as it is".into()),
-        Err(OpenError::Store(_)) => Err("FILE could not be cut and synced".into()),
+    match Tablet::open(rt.alloc(), who, short, &mut store) {
+        Ok(tablet) => serve(rt, Session::new(tablet, store)),
+        Err(NoTablet::NoMemory) => Err("there is no memory for the parts".into()),
+        Err(NoTablet::NoJournal(OpenError::Malformed)) => {
+            Err("FILE is no journal of a borrower; it is left as it is".into())
+        }
+        Err(NoTablet::NoJournal(OpenError::Store(_))) => {
+            Err("FILE could not be cut and synced".into())
+        }
     }
 }
 

@@ -2,12 +2,17 @@ ghost use mathlib.Core.Path.{_≡_};
 ghost use Rattle.std.specs.Vec.{made};
 ghost use Rattle.borrower.specs.Tablets.{copy-at};
 ghost use Rattle.borrower.specs.Outcomes.{Fresh, Reread};
+ghost use Rattle.borrower.specs.Opened.{OpenedAs};
 use crate::hold::Hold;
 use crate::hold::OnFile;
 use crate::hold::Part;
+use crate::tablet::NoTablet;
 use crate::tablet::Tablet;
+use journal::record::Owner;
 use journal::record::Record;
 use journal::replay::Journaled;
+use journal::replay::open;
+use journal::store::Store;
 use part::files::Files;
 use part::place::Place;
 use part::who::Who;
@@ -39,6 +44,24 @@ impl Tablet {
             filed,
             copies,
         })
+    }
+
+    /// A tablet that comes up from its journal, which is cut after its last whole record.
+    pub fn open<S: Store>(
+        heap: Global,
+        who: Who,
+        short: u64,
+        store: &mut S,
+    ) -> Result<Tablet, NoTablet>
+        ensures { λ r. ⌜ OpenedAs (appended (now (store .entry))) (appended (now (store .exit))) (synced (now (store .entry))) (synced (now (store .exit))) who short r ⌝ }
+    {
+        let Ok(mut tablet) = Tablet::new(heap, who, short) else {
+            return Err(NoTablet::NoMemory);
+        };
+        match open(Owner::Borrower, store, &mut tablet) {
+            Ok(()) => Ok(tablet),
+            Err(why) => Err(NoTablet::NoJournal(why)),
+        }
     }
 
     /// The bytes of a copy; they may be shown only where `show` said so.

@@ -4,10 +4,15 @@ ghost use Rattle.part.specs.Parts.{blank};
 ghost use Rattle.lender.specs.Book.{keeper-book, keeper-parts};
 ghost use Rattle.lender.specs.Rules.{fresh};
 ghost use Rattle.lender.specs.Replay.{Redone};
+ghost use Rattle.lender.specs.OnDisk.{OpenedAs};
 use crate::keeper::Keeper;
+use crate::keeper::NoKeeper;
 use crate::lender::Lender;
+use journal::record::Owner;
 use journal::record::Record;
 use journal::replay::Journaled;
+use journal::replay::open;
+use journal::store::Store;
 use part::files::Files;
 use std::alloc::AllocError;
 use std::alloc::Global;
@@ -20,6 +25,21 @@ impl Keeper {
         let lender = Lender::new(heap, long)?;
         let files = Files::new(heap)?;
         Ok(Keeper { lender, files })
+    }
+}
+
+impl Keeper {
+    /// A keeper from its journal, which is cut after its last whole record. It is not up before `come_up`.
+    pub fn open<S: Store>(heap: Global, long: u64, store: &mut S) -> Result<Keeper, NoKeeper>
+        ensures { λ r. ⌜ OpenedAs (appended (now (store .entry))) (appended (now (store .exit))) (synced (now (store .entry))) (synced (now (store .exit))) long r ⌝ }
+    {
+        let Ok(mut keeper) = Keeper::new(heap, long) else {
+            return Err(NoKeeper::NoMemory);
+        };
+        match open(Owner::Keeper, store, &mut keeper) {
+            Ok(()) => Ok(keeper),
+            Err(why) => Err(NoKeeper::NoJournal(why)),
+        }
     }
 }
 

@@ -8,6 +8,7 @@ ghost use Rattle.message.specs.Reading.{read};
 ghost use Rattle.journal.specs.Logs.{Logged};
 ghost use Rattle.lender.specs.Book.{keeper-book, keeper-parts};
 ghost use Rattle.lender.specs.Rules.{risen};
+ghost use Rattle.lender.specs.OnDisk.{OnDisk};
 ghost use Rattle.lender.specs.Replies.{effect, place-in, heard-effect, heard-book, heard-parts, recorded-by};
 use crate::answer::Reply;
 use crate::keeper::Keeper;
@@ -34,6 +35,7 @@ impl Keeper {
         ensures answer { λ r. ⌜ r ≡ ltb (clock + keeper-book (now (self .entry)) .long) (2 ^ 64) ⌝ }
         ensures book { λ r. ⌜ keeper-book (now (self .exit)) ≡ cond r (risen clock (keeper-book (now (self .entry)))) (keeper-book (now (self .entry))) ⌝ }
         ensures parts { λ _. ⌜ keeper-parts (now (self .exit)) ≡ keeper-parts (now (self .entry)) ⌝ }
+        ensures disk { λ _. ⌜ ((file : List ℕ) → OnDisk (now (self .entry)) file → OnDisk (now (self .exit)) file) ⌝ }
     {
         self.lender.come_up(clock)
     }
@@ -75,6 +77,7 @@ impl Keeper {
         ensures book { λ _. ⌜ keeper-book (now (self .exit)) ≡ heard-book clock (read (now (bytes .entry))) (keeper-book (now (self .entry))) ⌝ }
         ensures parts { λ _. ⌜ keeper-parts (now (self .exit)) ≡ heard-parts clock (read (now (bytes .entry))) (keeper-book (now (self .entry))) (keeper-parts (now (self .entry))) ⌝ }
         ensures logged { λ r. ⌜ made r (λ _. Logged (heard-effect clock (read (now (bytes .entry))) (keeper-book (now (self .entry))) (keeper-parts (now (self .entry))) .records) (appended (now (store .entry))) (synced (now (store .entry))) (appended (now (store .exit))) (synced (now (store .exit)))) ⌝ }
+        ensures disk { λ r. ⌜ made r (λ _. OnDisk (now (self .entry)) (appended (now (store .entry))) → OnDisk (now (self .exit)) (appended (now (store .exit)))) ⌝ }
     {
         let reply = self.receive(clock, bytes);
         self.log(store, reply.record)?;
