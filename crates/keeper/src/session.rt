@@ -3,6 +3,8 @@ use crate::print;
 use journal::store::Store;
 use lender::keeper::Keeper;
 use lines::output::Output;
+use message::refusal::Refusal;
+use startup::print::refused;
 use std::error::AnyError;
 
 /// A keeper with its journal, and what its clock read last.
@@ -34,11 +36,11 @@ impl<S: Store> Session<S> {
         out: &mut Output,
     ) -> Result<(), AnyError> {
         let Some(heard) = parse(line, buffer) else {
-            print::refused(out, 1)?;
+            refused(out, Refusal::Malformed)?;
             return Ok(());
         };
         if heard.clock < self.last {
-            print::refused(out, 1)?;
+            refused(out, Refusal::Malformed)?;
             return Ok(());
         }
         self.last = heard.clock;
@@ -46,7 +48,7 @@ impl<S: Store> Session<S> {
             self.up = self.keeper.come_up(heard.clock);
         }
         if !self.up {
-            print::refused(out, 9)?;
+            refused(out, Refusal::Exhausted)?;
             return Ok(());
         }
         match heard.size {

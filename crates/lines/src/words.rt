@@ -3,6 +3,7 @@ ghost use mathlib.Core.List.{_∷_};
 ghost use Prim.Native.Nat.{_≤_};
 ghost use lib.ListN.{length};
 ghost use Rattle.std.specs.Options.{mapped};
+ghost use Rattle.std.specs.shelf.Text.{sameBytes};
 ghost use Rattle.lines.specs.Words.{before, behind, words, rest-words};
 
 const SPACE: u8 = b' ';
@@ -32,4 +33,11 @@ pub fn split(text: &[u8]) -> (&[u8], Option<&[u8]>)
     } else {
         (text, None)
     }
+}
+
+/// The word is this text.
+pub fn is(word: &[u8], text: &[u8]) -> bool
+    ensures { λ r. ⌜ r ≡ sameBytes (now (word .entry)) (now (text .entry)) ⌝ }
+{
+    word == text
 }

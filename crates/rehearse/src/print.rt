@@ -13,13 +13,6 @@ pub fn word(out: &mut Output, text: &str) -> Result<(), AllocError> {
     out.end_line()
 }
 
-/// Prints a refusal by its number.
-pub fn refused(out: &mut Output, refusal: Refusal) -> Result<(), AllocError> {
-    out.text("refused ")?;
-    out.number(u64::from(refusal.number()))?;
-    out.end_line()
-}
-
 // Prints a number behind a space.
 fn also(out: &mut Output, number: u64) -> Result<(), AllocError> {
     out.text(" ")?;

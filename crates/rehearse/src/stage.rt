@@ -13,6 +13,7 @@ use part::who::Who;
 use script::step::Act;
 use script::step::Node as Name;
 use script::step::Step;
+use startup::print::refused;
 use std::alloc::AllocError;
 use std::alloc::Global;
 use std::error::AnyError;
@@ -87,14 +88,14 @@ impl Stage {
             Said::Nothing => Ok(()),
             Said::Anew => print::word(out, "anew"),
             Said::Done => print::word(out, "done"),
-            Said::Refused(refusal) => print::refused(out, refusal),
+            Said::Refused(refusal) => refused(out, refusal),
         }
     }
 
     // Somebody comes up; who is up already is refused by 1, and so is the keeper.
     fn up(&mut self, name: Name, out: &mut Output) -> Result<(), AnyError> {
         let Some(i) = self.index(name, false) else {
-            return Ok(print::refused(out, Refusal::Malformed)?);
+            return Ok(refused(out, Refusal::Malformed)?);
         };
         if i < self.nodes.len() {
             self.nodes[i].come_up(self.heap)?;
@@ -105,7 +106,7 @@ impl Stage {
     // Somebody stops; who is down already is refused by 1, and so is the keeper.
     fn stop(&mut self, name: Name, out: &mut Output) -> Result<(), AnyError> {
         let Some(i) = self.index(name, true) else {
-            return Ok(print::refused(out, Refusal::Malformed)?);
+            return Ok(refused(out, Refusal::Malformed)?);
         };
         if i < self.nodes.len() {
             self.nodes[i].up = false;
@@ -139,7 +140,7 @@ impl Stage {
     ) -> Result<(), AnyError> {
         let i = who as usize;
         if i >= self.nodes.len() {
-            return Ok(print::refused(out, Refusal::Malformed)?);
+            return Ok(refused(out, Refusal::Malformed)?);
         }
         if !self.nodes[i].up {
             return Ok(print::word(out, "down")?);
@@ -176,7 +177,7 @@ impl Stage {
         }
         match outcome.answer {
             Ok(()) => print::word(out, "done"),
-            Err(refusal) => print::refused(out, refusal),
+            Err(refusal) => refused(out, refusal),
         }
     }
 }

@@ -3,7 +3,7 @@ ghost use Rattle.std.specs.Options.{mapped, Cases as BySome};
 ghost use Rattle.script.specs.Scripts.{plain, step-of, Bounded};
 use crate::step::forms::*;
 use crate::step::parts::blank;
-use crate::step::parts::is;
+use lines::words::is;
 use lines::words::split;
 use part::place::Place;
 

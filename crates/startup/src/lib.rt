@@ -1,4 +1,4 @@
-// What the programs share at their start: the terms that their arguments give, or why they don't start.
+// What the programs share: the terms that their arguments give, or why they don't start; and the lines that they print.
 ghost use mathlib.Core.Path.{_≡_};
 ghost use Rattle.std.specs.Results.{Cases};
 ghost use Rattle.lines.specs.Decimals.{number-of};
@@ -7,6 +7,8 @@ ghost use Rattle.startup.specs.Start.{why, verdict-of};
 use clock::terms::Terms;
 use clock::terms::Unfit;
 use lines::decimal::number;
+
+pub mod print;
 
 /// Why a program does not start.
 #[derive(Clone, Copy)]

@@ -1,11 +1,11 @@
 ghost use mathlib.Core.Path.{_≡_};
 ghost use mathlib.Core.List.{_∷_};
 ghost use Rattle.std.specs.Options.{mapped};
-ghost use Rattle.std.specs.shelf.Text.{sameBytes};
 ghost use Rattle.lines.specs.Words.{words, rest-words};
 ghost use Rattle.tablet.specs.Lines.{plain, plain-said, place-of, at-place, message-of, two-of, three-of, act-of, said-of};
 use lines::decimal::number;
 use lines::hex::decode;
+use lines::words::is;
 use lines::words::split;
 use message::kind::Kind;
 use part::place::Place;
@@ -29,13 +29,6 @@ pub enum Act {
 pub struct Said {
     pub clock: u64,
     pub act: Act,
-}
-
-// The word is this text.
-fn is(word: &[u8], text: &[u8]) -> bool
-    ensures { λ r. ⌜ r ≡ sameBytes (now (word .entry)) (now (text .entry)) ⌝ }
-{
-    word == text
 }
 
 // The part that two words name.

@@ -8,8 +8,10 @@ use lines::decimal::number;
 use lines::input::Input;
 use lines::input::Line;
 use lines::output::Output;
+use message::refusal::Refusal;
 use part::who::Who;
 use session::Session;
+use startup::print::refused;
 use startup::terms;
 use std::env;
 use std::error::AnyError;
@@ -33,7 +35,7 @@ fn serve(rt: &LibcRuntime, mut session: Session<FileStore>) -> Result<(), AnyErr
     for _ in 0..u64::MAX {
         match input.next_line(&mut stdin)? {
             Line::Whole => session.hear(input.line(), buffer.as_mut_slice(), &mut out)?,
-            Line::Cut => print::refused(&mut out, 1)?,
+            Line::Cut => refused(&mut out, Refusal::Malformed)?,
             Line::End => break,
         }
         stdout.write_all(out.as_slice())?;

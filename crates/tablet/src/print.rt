@@ -1,40 +1,11 @@
 use borrower::outcome::Outcome;
 use lines::output::Output;
-use message::encode::encode;
 use message::form::Message;
-use message::refusal::Refusal;
 use part::head::Head;
 use part::place::Place;
+use startup::print::answer;
+use startup::print::sent;
 use std::alloc::AllocError;
-
-/// Prints a refusal by its number.
-pub fn refused(out: &mut Output, number: u8) -> Result<(), AllocError> {
-    out.text("refused ")?;
-    out.number(u64::from(number))?;
-    out.end_line()
-}
-
-// Prints the answer to a line.
-fn answer(out: &mut Output, answer: Result<(), Refusal>) -> Result<(), AllocError> {
-    match answer {
-        Ok(()) => out.text("done\n"),
-        Err(refusal) => refused(out, refusal.number()),
-    }
-}
-
-// Prints a message that is sent; the bytes go with it where it is a write.
-fn sent(out: &mut Output, message: Message, bytes: &[u8; 1024]) -> Result<(), AllocError> {
-    let mut buffer = [0; 1033];
-    let Some(size) = encode(&message, bytes, &mut buffer) else {
-        return Ok(());
-    };
-    if size > 1033 {
-        return Ok(());
-    }
-    out.text("send ")?;
-    out.hex(&buffer[0..size])?;
-    out.end_line()
-}
 
 // Prints a part's file and number.
 fn place(out: &mut Output, place: Place) -> Result<(), AllocError> {

@@ -5,7 +5,9 @@ use borrower::outcome::Call;
 use borrower::tablet::Tablet;
 use journal::store::Store;
 use lines::output::Output;
+use message::refusal::Refusal;
 use part::place::Place;
+use startup::print::refused;
 use std::error::AnyError;
 
 const NO_JOURNAL: &str = "the journal could not be written and synced";
@@ -36,12 +38,12 @@ impl<S: Store> Session<S> {
         out: &mut Output,
     ) -> Result<(), AnyError> {
         let Some(said) = parse(line, buffer) else {
-            print::refused(out, 1)?;
+            refused(out, Refusal::Malformed)?;
             return Ok(());
         };
         let clock = said.clock;
         if clock < self.last {
-            print::refused(out, 1)?;
+            refused(out, Refusal::Malformed)?;
             return Ok(());
         }
         self.last = clock;

@@ -8,6 +8,7 @@ use crate::step::Node;
 use crate::step::Step;
 use crate::step::parts::*;
 use lines::decimal::number;
+use lines::words::is;
 use lines::words::split;
 use part::place::Place;
 

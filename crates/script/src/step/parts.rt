@@ -3,21 +3,14 @@ ghost use mathlib.Core.Bool.{cond};
 ghost use Prim.Native.Nat.{_≤_};
 ghost use Rattle.std.specs.Options.{mapped};
 ghost use Rattle.std.specs.declared.option.Option.the-variants.{Some, None};
-ghost use Rattle.std.specs.shelf.Text.{sameBytes};
 ghost use Rattle.lines.specs.Words.{rest-words};
 ghost use Rattle.script.specs.Scripts.{is-blank, ended, fill-of, small-of, node-of, place-of, zeros, bytes-of, keyed-number, keyed-node, torn-of};
 use crate::step::Node;
 use lines::decimal::number;
 use lines::hex::decode;
+use lines::words::is;
 use lines::words::split;
 use part::place::Place;
-
-// The word is this text.
-pub(super) fn is(word: &[u8], text: &[u8]) -> bool
-    ensures { λ r. ⌜ r ≡ sameBytes (now (word .entry)) (now (text .entry)) ⌝ }
-{
-    word == text
-}
 
 // The line is passed over.
 pub(super) fn blank(line: &[u8]) -> bool

@@ -1,6 +1,6 @@
 use Rattle.std.proofs.shelf.Equals.{matches-decides, sameBytes-decides}
 use Rattle.std.proofs.shelf.Ways.{same-from-decides}
-use Rattle.script.proofs.step.parts.is.Needs as need
+use Rattle.lines.proofs.words.is.Needs as need
 
 pub returns : need.returns
 returns c =
