@@ -1,3 +1,5 @@
+ghost use Rattle.std.specs.Vec.{made};
+ghost use Rattle.keeper.specs.Sessions.{Settled};
 use crate::line::parse;
 use crate::print;
 use journal::store::Store;
@@ -29,12 +31,9 @@ impl<S: Store> Session<S> {
 
     /// A line comes: what the keeper sends and answers is printed. `buffer` is for the bytes of a message: one more than the
     /// longest message has, so that no longer one is taken for a message.
-    pub fn hear(
-        &mut self,
-        line: &[u8],
-        buffer: &mut [u8],
-        out: &mut Output,
-    ) -> Result<(), AnyError> {
+    pub fn hear(&mut self, line: &[u8], buffer: &mut [u8], out: &mut Output) -> Result<(), AnyError>
+        ensures { λ r. ⌜ made r (λ _. Settled (now (self .entry) .keeper) (appended (now (self .entry) .store)) (synced (now (self .entry) .store)) → Settled (now (self .exit) .keeper) (appended (now (self .exit) .store)) (synced (now (self .exit) .store))) ⌝ }
+    {
         let Some(heard) = parse(line, buffer) else {
             refused(out, Refusal::Malformed)?;
             return Ok(());
@@ -62,7 +61,9 @@ impl<S: Store> Session<S> {
     }
 
     // A message comes.
-    fn serve(&mut self, clock: u64, message: &[u8], out: &mut Output) -> Result<(), AnyError> {
+    fn serve(&mut self, clock: u64, message: &[u8], out: &mut Output) -> Result<(), AnyError>
+        ensures { λ r. ⌜ made r (λ _. Settled (now (self .entry) .keeper) (appended (now (self .entry) .store)) (synced (now (self .entry) .store)) → Settled (now (self .exit) .keeper) (appended (now (self .exit) .store)) (synced (now (self .exit) .store))) ⌝ }
+    {
         let Ok(reply) = self.keeper.serve(&mut self.store, clock, message) else {
             return Err("the journal could not be written and synced".into());
         };
