@@ -1,5 +1,7 @@
 // The journals of the keeper and of the borrowers: their records as bytes, what a journal that a stop cut short still
 // says, and the stores that journals are kept in.
+#![tactic(auto)]
+
 pub mod laws;
 pub mod log;
 pub mod read;

@@ -1,4 +1,6 @@
 // The keeper, by lines: messages come in on standard input with readings of its clock, and what it sends goes out.
+#![tactic(auto)]
+
 use anyhow::anyhow;
 use journal::replay::OpenError;
 use journal::store::file::FileStore;

@@ -1,4 +1,6 @@
 // The text layer of the programs: what their lines say, and the bytes that they print.
+#![tactic(auto)]
+
 pub mod decimal;
 pub mod hex;
 pub mod input;

@@ -1,4 +1,6 @@
 // Plays a script: so far its clocks, which run as it says within their error, and the borrowers 0 to 3.
+#![tactic(auto)]
+
 use anyhow::anyhow;
 use lines::input::{Input, Line};
 use lines::output::Output;

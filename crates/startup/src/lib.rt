@@ -1,4 +1,6 @@
 // What the programs share: the terms that their arguments give, or why they don't start; and the lines that they print.
+#![tactic(auto)]
+
 ghost use Rattle.std.specs.Prelude.{◌≡◌, Some, MatchResult};
 ghost use Rattle.lines.specs.Decimals.{number_of};
 ghost use Rattle.startup.specs.Start.{why, verdict_of};

@@ -1,4 +1,6 @@
 // A tablet, by lines: calls and messages come in on standard input with readings of its clock, and what it sends and shows goes out.
+#![tactic(auto)]
+
 use anyhow::anyhow;
 use borrower::tablet::{NoTablet, Tablet};
 use journal::replay::OpenError;

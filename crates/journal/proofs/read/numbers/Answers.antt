@@ -10,5 +10,5 @@ returns c =
     record {
       sound = ((c.in-Some.place.within, a.small, w.small), tt);
       long = refl;
-      is = numbers_is ys _ _ _ (omega arith) c.in-Some.ensures (c.type-inv.body 1).fits a.bytes w.bytes;
+      is = numbers_is ys _ _ _ (omega arith) c.in-Some.ensures (c.type_inv.body 1).fits a.bytes w.bytes;
     }

@@ -7,5 +7,5 @@ returns c =
     let l : length c.args.body.now ≡ 3 = search rules in (
       (c.in-Some.who.small, c.in-Some-new.place.within),
       refl,
-      recall_is c.args.body.now _ _ l c.in-Some.ensures c.in-Some-new.ensures (c.type-inv.body 2).fits,
+      recall_is c.args.body.now _ _ l c.in-Some.ensures c.in-Some-new.ensures (c.type_inv.body 2).fits,
     )

@@ -6,6 +6,6 @@ pub returns : goal.returns
 returns c =
     record {
       inside = omega arith;
-      small = c.from-be-bytes.type-inv;
-      bytes = stand c.args.bytes.now c.args.at _ (omega arith) (λ i. (c.type-inv.bytes i).fits) c.from-be-bytes.ensures;
+      small = c.from_be_bytes.type_inv;
+      bytes = stand c.args.bytes.now c.args.at _ (omega arith) (λ i. (c.type_inv.bytes i).fits) c.from_be_bytes.ensures;
     }

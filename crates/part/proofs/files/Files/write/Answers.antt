@@ -7,4 +7,4 @@ pub returns : goal.returns
 returns c =
     ap part_of (with_items_is c.args.self.now.bytes c.put.new.files (omega arith))
     ∙ c.put.ensures
-    ∙ ap (λ xs. at_1 c.args.place.at c.args.bytes.now (part_of xs)) c.deref-mut.ensures.value
+    ∙ ap (λ xs. at_1 c.args.place.at c.args.bytes.now (part_of xs)) c.deref_mut.ensures.value
