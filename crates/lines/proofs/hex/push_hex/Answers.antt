@@ -6,7 +6,7 @@ use Rattle.lines.proofs.hex.push_hex.Goals as goal
 
 pub loop-b-preserved : goal.loop-b-preserved
 loop-b-preserved c =
-    (text_step _ _ _ c.args.bytes.now c.loop-b.b-index _ _ (omega arith) c.letter.ensures c.letter-in-loop-b.ensures c.push-reserved.ensures.items c.push-reserved-in-loop-b.ensures.items ∙ c.loop-b.invariant.0, omega arith)
+    (text_step _ _ _ c.args.bytes.now c.loop-b.b-index _ _ (omega arith) c.letter.ensures c.letter-in-loop-b.ensures c.push_reserved.ensures.items c.push_reserved-in-loop-b.ensures.items ∙ c.loop-b.invariant.0, omega arith)
 
 pub returns : goal.returns
 returns c =

@@ -7,17 +7,17 @@ use Rattle.lines.proofs.output.push_number.Goals as goal
 pub loop-rest-init : goal.loop-rest-init
 loop-rest-init c = spelled_start c.args.number _ c.ranges.number.fits refl
 
-pub overflow-sub-start : goal.overflow-sub-start
-overflow-sub-start c = spelled_room _ _ _ _ c.loop-rest.invariant
+pub overflow_sub-start : goal.overflow_sub-start
+overflow_sub-start c = spelled_room _ _ _ _ c.loop-rest.invariant
 
 pub loop-rest-preserved : goal.loop-rest-preserved
 loop-rest-preserved c = spelled_step _ _ _ _ (omega arith) c.loop-rest.invariant
 
-pub overflow-sub-start-2 : goal.overflow-sub-start-2
-overflow-sub-start-2 c = spelled_room _ _ _ _ c.loop-rest.invariant
+pub overflow_sub-start-2 : goal.overflow_sub-start-2
+overflow_sub-start-2 c = spelled_room _ _ _ _ c.loop-rest.invariant
 
 pub returns : goal.returns
 returns c =
     let last = spelled_last _ _ _ _ (omega arith) c.loop-rest.invariant in
-    let r : Result (Unit {0}) AllocError = c.extend-from-slice.result in
-    c.extend-from-slice.ensures.items ∙ ap (λ (q : List ℕ). appended_to (vec_items c.args.out.now) q r) last
+    let r : Result (Unit {0}) AllocError = c.extend_from_slice.result in
+    c.extend_from_slice.ensures.items ∙ ap (λ (q : List ℕ). appended_to (vec_items c.args.out.now) q r) last

@@ -4,8 +4,8 @@ use Rattle.lines.proofs.words.split.Goals as goal
 
 pub returns-then-end-text : goal.returns-then-end-text
 returns-then-end-text c =
-    let w = slice_before 32 _ c.args.text.now c.find_end.ensures.at in
-    let b = slice_behind 32 _ c.args.text.now c.find_end.ensures.at (omega arith) in
+    let w = slice_before 32 _ c.args.text.now c.find-end.ensures.at in
+    let b = slice_behind 32 _ c.args.text.now c.find-end.ensures.at (omega arith) in
     record { word = w; more = b; words = words_by c.args.text.now _ _ w b }
 
 pub returns-else-end-text : goal.returns-else-end-text

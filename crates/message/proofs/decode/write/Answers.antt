@@ -2,8 +2,8 @@ use Rattle.std.proofs.Common.{◌≡◌, length, refl, arith, rules}
 use Rattle.message.proofs.Bodies.{headless, ends, write_ends, carried_long}
 use Rattle.message.proofs.decode.write.Goals as goal
 
-pub returns-in-default : goal.returns-in-default
-returns-in-default c = headless _ _ c.in-default.ensures.none (omega arith)
+pub returns-in_default : goal.returns-in_default
+returns-in_default c = headless _ _ c.in_default.ensures.none (omega arith)
 
 pub returns : goal.returns
 returns c =

@@ -10,7 +10,7 @@ returns-in-Ask c =
     let xs = c.args.out.now in
     let l : 13 ≤ length xs = search rules in
     let p = c.put.ensures in
-    let q = c.put-number.ensures in
+    let q = c.put_number.ensures in
     let s = ap (said c.args.part.now) i.is in
     record {
       formed = λ _. rw s (p.named, q.small);
@@ -30,7 +30,7 @@ returns-in-Loan c =
       formed = λ _. rw s (p.named, lv);
       wrote = loan_wrote i.head.who.id i.head.place.at i.head.number xs _ (there _ _ _ _ _ _ p.fits (omega arith) p.after)
           i.kind c.args.part.now _ _ _ s l lv c.byte-in-Loan.ensures
-          (put_mid_is 9 _ _ _ c.args.part.now c.copy-from-slice.ensures.after lv);
+          (put_mid_is 9 _ _ _ c.args.part.now c.copy_from_slice.ensures.after lv);
     }
 
 pub returns-in-Write : goal.returns-in-Write
@@ -45,5 +45,5 @@ returns-in-Write c =
       formed = λ _. rw s (p.named, lv);
       wrote = write_wrote i.head.who.id i.head.place.at i.head.number xs _ (there _ _ _ _ _ _ p.fits (omega arith) p.after)
           c.args.part.now _ _ s lv
-          (put_mid_is 8 _ _ _ c.args.part.now c.copy-from-slice-in-Write.ensures.after lv);
+          (put_mid_is 8 _ _ _ c.args.part.now c.copy_from_slice-in-Write.ensures.after lv);
     }

@@ -14,5 +14,5 @@ returns c =
     let P : List ℕ → Type 0 = λ q. Decoded q c.decode.result in
     exact m (w.formed refl) c.decode.result (subst P (front_is _ _ (layout m) _ w.wrote.1 w.wrote.0) c.decode.ensures.exact)
 
-pub returns-in-default : goal.returns-in-default
-returns-in-default c = omega (arith, c.in-default.ensures.wrote.0, sized c.args.part.now c.args.message.now c.told-part, most c.args.message.now)
+pub returns-in_default : goal.returns-in_default
+returns-in_default c = omega (arith, c.in_default.ensures.wrote.0, sized c.args.part.now c.args.message.now c.told-part, most c.args.message.now)

@@ -4,7 +4,7 @@ use Rattle.std.proofs.lemmas.Bool.{eqb-true}
 use Rattle.lines.specs.Inputs.{rest}
 use Rattle.lines.proofs.input.Input.finish.Goals as goal
 
-pub returns-then-is-empty : goal.returns-then-is-empty
-returns-then-is-empty c =
-    let e : rest c.args.self.now ≡ [] = sym c.left.ensures.is ∙ nil_from_length _ (eqb-true _ _ (sym c.if-is-empty.ensures)) in
+pub returns-then-is_empty : goal.returns-then-is_empty
+returns-then-is_empty c =
+    let e : rest c.args.self.now ≡ [] = sym c.left.ensures.is ∙ nil_from_length _ (eqb-true _ _ (sym c.if-is_empty.ensures)) in
     (e, e)
