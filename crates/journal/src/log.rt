@@ -11,7 +11,7 @@ pub fn log<S: Store>(
     record: Option<Record>,
     part: &[u8; 1024],
 ) -> Result<(), StoreError>
-    ensures { OnOk result (Logged (logged part.now «record») (appended store.old) (synced store.old) (appended store.new) (synced store.new)) }
+    ensures { OnOk result (Logged (logged part.now «record») (S.appended store.old) (S.synced store.old) (S.appended store.new) (S.synced store.new)) }
 {
     let Some(record) = record else {
         return Ok(());

@@ -33,7 +33,7 @@ pub trait Journaled {
 fn apply_ending<R: Journaled>(into: &mut R, record: Record, bytes: &[u8], end: usize)
     requires within { end ≤ length bytes.now }
     requires formed { WellFormed (ending bytes.now end «record») }
-    ensures { becomes into.old (ending bytes.now end «record») into.new }
+    ensures { R.becomes into.old (ending bytes.now end «record») into.new }
 {
     match carried_part(&bytes[0..end]) {
         Some(part) => into.apply(record, part),
@@ -44,7 +44,7 @@ fn apply_ending<R: Journaled>(into: &mut R, record: Record, bytes: &[u8], end: u
 /// Applies the whole records of a journal one after another, and says where they end. The journal is judged first: where
 /// it is refused nothing is applied.
 pub fn replay<R: Journaled>(owner: Owner, bytes: &[u8], into: &mut R) -> Result<usize, Malformed>
-    ensures { Replayed becomes owner bytes.now into.old into.new result }
+    ensures { Replayed R.becomes owner bytes.now into.old into.new result }
 {
     let Ok(size) = whole(owner, bytes) else {
         return Err(Malformed);
@@ -64,7 +64,7 @@ pub fn replay<R: Journaled>(owner: Owner, bytes: &[u8], into: &mut R) -> Result<
 
 // Cuts the file to so many of its first bytes, and syncs.
 fn shorten<S: Store>(store: &mut S, size: usize) -> Result<(), StoreError>
-    ensures { ShortenedSafe (appended store.old) size (appended store.new) (synced store.new) result }
+    ensures { ShortenedSafe (S.appended store.old) size (S.appended store.new) (S.synced store.new) result }
 {
     store.truncate(size)?;
     store.sync()
@@ -77,7 +77,7 @@ pub fn open<S: Store, R: Journaled>(
     store: &mut S,
     into: &mut R,
 ) -> Result<(), OpenError>
-    ensures { Opened becomes owner (appended store.old) (appended store.new) (synced store.old) (synced store.new) into.old into.new result }
+    ensures { Opened R.becomes owner (S.appended store.old) (S.appended store.new) (S.synced store.old) (S.synced store.new) into.old into.new result }
 {
     let Ok(size) = replay(owner, store.content(), into) else {
         return Err(OpenError::Malformed);

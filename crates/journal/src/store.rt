@@ -48,8 +48,8 @@ pub trait Store {
 /// Appends bytes and syncs: once it is done they are on the disk, behind what was there. What depends on them may leave
 /// only then.
 pub fn commit<S: Store>(store: &mut S, bytes: &[u8]) -> Result<(), StoreError>
-    ensures grown { Grown (appended store.old) bytes.now (appended store.new) result }
-    ensures saved { Saved (synced store.old) (appended store.new) (synced store.new) result }
+    ensures grown { Grown (S.appended store.old) bytes.now (S.appended store.new) result }
+    ensures saved { Saved (S.synced store.old) (S.appended store.new) (S.synced store.new) result }
 {
     store.append(bytes)?;
     store.sync()
@@ -62,8 +62,8 @@ pub fn commit_record<S: Store>(
     part: &[u8; 1024],
 ) -> Result<(), StoreError>
     ensures formed { WellFormed (recorded part.now «record».now) }
-    ensures grown { Grown (appended store.old) (layout (recorded part.now «record».now)) (appended store.new) result }
-    ensures saved { Saved (synced store.old) (appended store.new) (synced store.new) result }
+    ensures grown { Grown (S.appended store.old) (layout (recorded part.now «record».now)) (S.appended store.new) result }
+    ensures saved { Saved (S.synced store.old) (S.appended store.new) (S.synced store.new) result }
 {
     let mut out = [0; 1032];
     let Some(size) = encode(record, part, &mut out) else {

@@ -7,7 +7,7 @@ use crate::test::Test;
 
 /// Whether some lease passes.
 pub fn some<T: Test>(leases: &[Lease], test: &T) -> bool
-    ensures { result ≡ any (passes test.now) leases.now }
+    ensures { result ≡ any (T.passes test.now) leases.now }
 {
     for l in leases {
         if test.test(*l) {
@@ -19,7 +19,7 @@ pub fn some<T: Test>(leases: &[Lease], test: &T) -> bool
 
 /// How many leases pass.
 pub fn count<T: Test>(leases: &[Lease], test: &T) -> usize
-    ensures is { result ≡ count_by (passes test.now) leases.now }
+    ensures is { result ≡ count_by (T.passes test.now) leases.now }
     ensures most { result ≤ length leases.now }
 {
     let mut n = 0;
@@ -33,7 +33,7 @@ pub fn count<T: Test>(leases: &[Lease], test: &T) -> usize
 
 /// Which of the 32 borrowers have a lease that passes.
 pub fn marks<T: Test>(leases: &[Lease], test: &T) -> [bool; 32]
-    ensures { result ≡ marks_of (passes test.now) leases.now }
+    ensures { result ≡ marks_of (T.passes test.now) leases.now }
 {
     let mut marks = [false; 32];
     for l in leases {
@@ -49,7 +49,7 @@ pub fn marks<T: Test>(leases: &[Lease], test: &T) -> [bool; 32]
 
 /// Keeps the leases that pass.
 pub fn keep<T: Test>(leases: &mut Vec<Lease>, test: &T)
-    ensures items { leases.new.items ≡ filter (passes test.now) leases.old.items }
+    ensures items { leases.new.items ≡ filter (T.passes test.now) leases.old.items }
     ensures len { vec_len leases.new ≤ vec_len leases.old }
     ensures capacity { vec_capacity leases.new ≡ vec_capacity leases.old }
 {

@@ -9,7 +9,7 @@ returns g c =
     let r = recorded c.args.part.now c.in-Some.record in
     let rs : layout r ≡ bytes_of (logged c.args.part.now c.args.record) =
     sym (append-nil (layout r)) ∙ ap (λ (o : Option Record). bytes_of (logged c.args.part.now o)) (sym c.in-Some.is) in
-    let d = c.in-ok-commit-record.ensures in
+    let d = c.in_ok-commit_record.ensures in
     record {
       grown = d.grown ∙ ap (λ (q : List ℕ). g.S.Store.appended c.args.store.now ++ q) rs;
       synced = λ _. d.saved;

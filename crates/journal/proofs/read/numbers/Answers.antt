@@ -5,8 +5,8 @@ use Rattle.journal.proofs.read.numbers.Goals as goal
 pub returns : goal.returns
 returns c =
     let ys = c.args.body.now in
-    let a = c.in-Some-number-at.ensures in
-    let w = c.in-Some-number-at-2.ensures in
+    let a = c.in-Some-number_at.ensures in
+    let w = c.in-Some-number_at-2.ensures in
     record {
       sound = ((c.in-Some.place.within, a.small, w.small), tt);
       long = refl;

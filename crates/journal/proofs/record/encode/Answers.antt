@@ -15,7 +15,7 @@ returns-in-Applied c =
     record {
       formed = λ _. rw s (p.named, lv);
       wrote = applied_wrote i.head.who.id i.head.place.at i.head.number xs _ c.args.part.now _ _ s
-          (there _ _ _ _ _ _ p.fits (omega arith) p.after) lv (put_mid_is 8 _ _ _ c.args.part.now c.copy-from-slice.ensures.after lv);
+          (there _ _ _ _ _ _ p.fits (omega arith) p.after) lv (put_mid_is 8 _ _ _ c.args.part.now c.copy_from_slice.ensures.after lv);
     }
 
 pub returns-in-Numbers : goal.returns-in-Numbers
@@ -23,8 +23,8 @@ returns-in-Numbers c =
     let i = c.in-Numbers in
     let xs = c.args.out.now in
     let l : 11 ≤ length xs = search rules in
-    let a = c.put-number.ensures in
-    let w = c.put-number-in-Numbers.ensures in
+    let a = c.put_number.ensures in
+    let w = c.put_number-in-Numbers.ensures in
     let s = ap (recorded c.args.part.now) i.is in
     record {
       formed = λ _. rw s (i.place.within, a.small, w.small);

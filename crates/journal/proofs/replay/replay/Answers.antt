@@ -4,8 +4,8 @@ use Rattle.journal.proofs.Readers.{within_more}
 use Rattle.journal.proofs.Turns.{leading_more, leading_end}
 use Rattle.journal.proofs.replay.replay.Goals as goal
 
-pub apply-ending-requires : goal.apply-ending-requires
-apply-ending-requires g c =
+pub apply_ending-requires : goal.apply_ending-requires
+apply_ending-requires g c =
     let s = c.in-Whole.ensures in
     record {
       within = (within_more c.args.owner c.args.bytes.now c.loop-record.at c.in-Whole.end c.in-Whole.«record» c.loop-record.invariant.0 s).1;
@@ -19,8 +19,8 @@ loop-record-smaller g c =
 
 pub loop-record-preserved : goal.loop-record-preserved
 loop-record-preserved g c =
-    leading_more g.R.Journaled.becomes c.args.owner c.args.bytes.now c.args.into.now c.loop-record.into c.apply-ending.new.into _ _ _
-    c.loop-record.invariant c.in-Whole.ensures c.apply-ending.ensures
+    leading_more g.R.Journaled.becomes c.args.owner c.args.bytes.now c.args.into.now c.loop-record.into c.apply_ending.new.into _ _ _
+    c.loop-record.invariant c.in-Whole.ensures c.apply_ending.ensures
 
 pub returns-in-Torn : goal.returns-in-Torn
 returns-in-Torn g c = (

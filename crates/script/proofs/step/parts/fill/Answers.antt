@@ -6,13 +6,13 @@ use Rattle.script.proofs.step.parts.fill.Goals as goal
 pub loop-i-init : goal.loop-i-init
 loop-i-init c = filled_start c.args.out.now (rest_words c.args.rest)
 
-pub returns-in-default : goal.returns-in-default
-returns-in-default c = filled_done c.loop-i.out c.loop-i.i (rest_words c.loop-i.rest) (ap rest_words c.in-default.is) ∙ c.loop-i.invariant
+pub returns-in_default : goal.returns-in_default
+returns-in_default c = filled_done c.loop-i.out c.loop-i.i (rest_words c.loop-i.rest) (ap rest_words c.in_default.is) ∙ c.loop-i.invariant
 
-pub returns-in-default-number : goal.returns-in-default-number
-returns-in-default-number c =
+pub returns-in_default-number : goal.returns-in_default-number
+returns-in_default-number c =
     filled_bad c.loop-i.out c.loop-i.i _ (rest_words c.loop-i.rest) _ (omega arith) (ap rest_words c.in-Some.is ∙ c.split.ensures.words)
-    c.in-default-number.ensures ∙ c.loop-i.invariant
+    c.in_default-number.ensures ∙ c.loop-i.invariant
 
 pub loop-i-preserved : goal.loop-i-preserved
 loop-i-preserved c =
@@ -21,4 +21,4 @@ loop-i-preserved c =
 
 pub returns : goal.returns
 returns c =
-    filled_end c.loop-i.out c.loop-i.i c.loop-i.rest c.is-none.result (omega arith) c.is-none.ensures ∙ c.loop-i.invariant
+    filled_end c.loop-i.out c.loop-i.i c.loop-i.rest c.is_none.result (omega arith) c.is_none.ensures ∙ c.loop-i.invariant
