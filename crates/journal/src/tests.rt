@@ -320,7 +320,7 @@ fn a_file_is_read_back(rt: HostRuntime) -> Result<(), Fail> {
     commit(&mut again, &[9])?;
     let last = FileStore::open(&rt, path)?;
     assert!(rt;
-        last.content() == &[9, 31, 63, 255, 0, 0, 0, 0, 9],
+        last.content() == [9, 31, 63, 255, 0, 0, 0, 0, 9].as_slice(),
         "cut and grown"
     );
     Ok(fs::remove_file(&rt, path)?)

@@ -1,6 +1,6 @@
 -- The list of leases that a table holds.
 -- Assumes nothing.
-use Rattle.std.specs.Prelude.{ℕ, Bool, List, map, vec_items}
+use Rattle.std.specs.Prelude.{Bool, List, map, vec_items}
 use Rattle.std.specs.List.{range_with_len}
 use Rattle.lease.specs.declared.lease.Lease.{Lease}
 use Rattle.lease.specs.declared.table.Table.{Table}

@@ -73,11 +73,11 @@ fn reading(rt: HostRuntime) -> Result<(), Fail> {
     let mut text: &[u8] = b"ab\n\ncd";
     let mut input = Input::new(rt.alloc())?;
     assert!(rt; matches!(input.next_line(&mut text)?, Line::Whole));
-    assert!(rt; input.line() == b"ab");
+    assert!(rt; input.line() == b"ab".as_slice());
     assert!(rt; matches!(input.next_line(&mut text)?, Line::Whole));
     assert!(rt; input.line().is_empty());
     assert!(rt; matches!(input.next_line(&mut text)?, Line::Cut));
-    assert!(rt; input.line() == b"cd");
+    assert!(rt; input.line() == b"cd".as_slice());
     assert!(rt; matches!(input.next_line(&mut text)?, Line::End));
     Ok(())
 }

@@ -1,6 +1,6 @@
 -- What the readers of one first byte each share.
 -- Assumes nothing.
-use Rattle.std.proofs.Common.{◌≡◌, ℕ, suc, ◌+◌, ◌-◌, ◌*◌, ◌/◌, ◌%◌, ◌<◌, ◌≤◌, List, [], ◌∷◌, ◌++◌, length, get_or, take, drop, Ok, Err, Result, sym, refl, ap, ◌∙◌, arith}
+use Rattle.std.proofs.Common.{◌≡◌, ℕ, suc, ◌+◌, ◌-◌, ◌*◌, ◌/◌, ◌%◌, ◌<◌, ◌≤◌, List, [], ◌∷◌, length, get_or, take, drop, Ok, Err, Result, sym, refl, ap, ◌∙◌, arith}
 use Rattle.std.proofs.lemmas.List.{drop_all, take_all, length-drop}
 use Rattle.std.proofs.lemmas.Slice.{first_rest}
 use Rattle.part.specs.Bytes.{four, headed, Named}
@@ -8,7 +8,7 @@ use Rattle.part.proofs.Numbers.{peel}
 use Rattle.message.specs.declared.form.Malformed.{Malformed}
 use Rattle.message.specs.declared.form.Message.{Message}
 use Rattle.message.specs.declared.form.Message.TheVariants as code
-use Rattle.message.specs.Format.{Msg, Ask, Loan, Write, In, Void, Recall, Back, said, carried, tag, body, layout, WellFormed, Decoded, DecodedBody, NotOnly}
+use Rattle.message.specs.Format.{Msg, Ask, Loan, Write, In, Void, Recall, Back, said, carried, tag, body, WellFormed, Decoded, DecodedBody, NotOnly}
 
 -- every message but a recall begins with a head
 pub headless : (t : ℕ) (ys : List ℕ) → ((w q n : ℕ) (more : List ℕ) → Named w q n → headed w q n more ≡ ys → ⊥) → (t ≡ 6 → ⊥)

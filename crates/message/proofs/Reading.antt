@@ -1,15 +1,14 @@
 -- Reading as a function gives exactly the well-formed message that has the bytes.
 -- Assumes nothing.
-use Rattle.std.proofs.Common.{◌≡◌, ℕ, ◌<◌, ◌≤◌, Bool, true, false, cond, ◌&&◌, eqb, ltb, List, [], ◌∷◌, length, get_or, take, Some, None, Ok, Err, Option, Result, sym, refl, ap, ◌∙◌, subst, arith}
-use Rattle.std.proofs.lemmas.List.{length-take, get_or-take}
-use Rattle.std.proofs.lemmas.Bool.{cond-true, cond-false, cond_both, and_parts, and_from, eqb-true, eq-eqb, ltb-true, lt-ltb}
+use Rattle.std.proofs.Common.{◌≡◌, ℕ, Bool, true, false, ◌&&◌, eqb, ltb, List, [], ◌∷◌, length, take, Some, None, Ok, Err, Option, Result, sym, refl, ap, ◌∙◌, subst, arith}
+use Rattle.std.proofs.lemmas.Bool.{cond-true, cond_both, and_parts, and_from, eqb-true, eq-eqb, ltb-true, lt-ltb}
 use Rattle.part.specs.Bytes.{Named}
 use Rattle.message.specs.declared.form.Malformed.{Malformed}
 use Rattle.message.specs.declared.form.Message.{Message}
-use Rattle.message.specs.Format.{Msg, Ask, Loan, Write, In, Void, Recall, Back, said, carried, tag, layout, WellFormed, Decoded}
+use Rattle.message.specs.Format.{Msg, Ask, Loan, Write, In, Void, Recall, Back, said, carried, layout, WellFormed, Decoded}
 use Rattle.message.specs.Reading.{guess, named, formed, same_bytes, read, heard}
 use Rattle.message.specs.Laws.{ReadsExactly}
-use Rattle.message.proofs.Unique.{back, distinct, cut_short}
+use Rattle.message.proofs.Unique.{back, cut_short}
 
 same_refl : (xs : List ℕ) → same_bytes xs xs ≡ true
 unfolding same_bytes

@@ -1,17 +1,16 @@
 -- The layout read back, and its length by its first byte.
 -- Assumes nothing.
-use Rattle.std.proofs.Common.{◌≡◌, ℕ, ◌+◌, ◌*◌, ◌/◌, ◌%◌, ◌<◌, ◌≤◌, cond, eqb, List, [], ◌∷◌, ◌++◌, length, get_or, take, drop, Ok, Err, Result, sym, refl, ap, ◌∙◌, arith, lit≤}
+use Rattle.std.proofs.Common.{◌≡◌, ℕ, ◌+◌, ◌*◌, ◌/◌, ◌%◌, ◌<◌, ◌≤◌, cond, eqb, List, length, get_or, take, Ok, Err, sym, refl, ap, ◌∙◌, arith, lit≤}
 use Rattle.std.proofs.lemmas.List.{length-take, get_or-take}
 use Rattle.part.proofs.Numbers.{number_back}
 use Rattle.message.specs.declared.kind.Kind.{Kind}
 use Rattle.message.specs.declared.kind.Kind.TheVariants.{Reading, Writing}
-use Rattle.message.specs.declared.form.Malformed.{Malformed}
 use Rattle.message.specs.declared.form.Message.{Message}
 use Rattle.message.specs.declared.form.Message.TheVariants as code
 use Rattle.message.specs.Kinds.{kind_byte}
-use Rattle.message.specs.Format.{Msg, Ask, Loan, Write, In, Void, Recall, Back, said, carried, tag, body, layout, WellFormed, size_of, Decoded}
+use Rattle.message.specs.Format.{Msg, Ask, Loan, Write, In, Void, Recall, Back, said, carried, tag, layout, WellFormed, size_of}
 use Rattle.message.specs.Reading.{kind, guess}
-use Rattle.message.specs.Laws.{Gave, Refused, Distinct, Exact, CutRefused}
+use Rattle.message.specs.Laws.{Distinct, Exact, CutRefused}
 
 kind_back : (k : Kind) → kind (kind_byte k) ≡ k
 kind_back Reading = refl

@@ -1,6 +1,6 @@
 -- The steps that a line can say name only borrowers and kinds of asks that there are.
 -- Assumes nothing.
-use Rattle.std.proofs.Common.{◌≡◌, ℕ, ◌<◌, Bool, true, false, cond, ltb, List, [], ◌∷◌, IfSome, Some, None, codes, Option, sym, refl, subst}
+use Rattle.std.proofs.Common.{◌≡◌, ℕ, ◌<◌, Bool, true, false, cond, ltb, List, [], ◌∷◌, IfSome, Some, None, codes, Option, sym, subst}
 use Rattle.std.specs.Option.{option_map}
 use Rattle.std.specs.Str.{bytes_eq}
 use Rattle.std.proofs.lemmas.Bool.{cond_both, ltb-true}
@@ -8,11 +8,11 @@ use Rattle.part.specs.declared.place.Place.{Place}
 use Rattle.lines.specs.Chains.{and_then}
 use Rattle.lines.specs.Decimals.{number_of}
 use Rattle.lines.specs.Words.{words}
-use Rattle.script.specs.Scripts.{plain, is_blank, ended, small_of, fill_of, node_of, place_of, bytes_of, keyed_number, keyed_node, node_behind, torn_of, set_of, tick_of, anew_of, only_node, up_of, stop_of, deliver_of, two_of, ask_of, write_of, act_of, call_of, form_of, step_of, Known, Kinded, Bounded}
+use Rattle.script.specs.Scripts.{plain, is_blank, ended, small_of, fill_of, node_of, place_of, bytes_of, keyed_number, keyed_node, node_behind, torn_of, set_of, tick_of, only_node, deliver_of, two_of, ask_of, write_of, act_of, call_of, form_of, step_of, Known, Kinded, Bounded}
 use Rattle.script.specs.declared.step.Node.{Node}
 use Rattle.script.specs.declared.step.Node.TheVariants.{Keeper, Borrower}
 use Rattle.script.specs.declared.step.Act.{Act}
-use Rattle.script.specs.declared.step.Act.TheVariants.{Ask, Show, Write, Forget}
+use Rattle.script.specs.declared.step.Act.TheVariants.{Ask, Write}
 use Rattle.script.specs.declared.step.Step.{Step}
 use Rattle.script.specs.declared.step.Step.TheVariants.{Blank, Set, Anew, Tick, Up, Stop, Call, Deliver}
 

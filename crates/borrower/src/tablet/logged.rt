@@ -13,7 +13,7 @@ use part::place::Place;
 
 // Appends the record of an outcome, if there is one, and syncs.
 fn settle<S: Store>(store: &mut S, record: Option<Record>) -> Result<(), StoreError>
-    ensures { OnOk result (Logged (recorded_by «record») (appended store.old) (synced store.old) (appended store.new) (synced store.new)) }
+    ensures { OnOk result (Logged (recorded_by «record») (S.appended store.old) (S.synced store.old) (S.appended store.new) (S.synced store.new)) }
 {
     match record {
         None => Ok(()),
@@ -32,7 +32,7 @@ impl Tablet {
     ) -> Result<Outcome, StoreError>
         ensures effect { IfOk result (λ o. (v : List ℕ) → effect v o ≡ call_effect self.old.who.id place.at v clock self.old.short call (part_at self.old place.at) (filed_at self.old place.at)) }
         ensures left { Stepped self.old self.new place.at (call_part clock self.old.short call (part_at self.old place.at)) }
-        ensures logged { IfOk result (λ o. Logged (recorded_by o.record) (appended store.old) (synced store.old) (appended store.new) (synced store.new)) }
+        ensures logged { IfOk result (λ o. Logged (recorded_by o.record) (S.appended store.old) (S.synced store.old) (S.appended store.new) (S.synced store.new)) }
     {
         let outcome = self.perform(clock, place, call);
         settle(store, outcome.record)?;
@@ -43,7 +43,7 @@ impl Tablet {
     pub fn hear<S: Store>(&mut self, store: &mut S, bytes: &[u8]) -> Result<Outcome, StoreError>
         ensures effect { IfOk result (λ o. effect [] o ≡ heard_effect self.old.who.id (read bytes.now) (part_at self.old) (filed_at self.old)) }
         ensures left { Heard self.old self.new (read bytes.now) }
-        ensures logged { IfOk result (λ o. Logged (recorded_by o.record) (appended store.old) (synced store.old) (appended store.new) (synced store.new)) }
+        ensures logged { IfOk result (λ o. Logged (recorded_by o.record) (S.appended store.old) (S.synced store.old) (S.appended store.new) (S.synced store.new)) }
     {
         let outcome = self.receive(bytes);
         settle(store, outcome.record)?;

@@ -47,7 +47,7 @@ impl Tablet {
         short: u64,
         store: &mut S,
     ) -> Result<Tablet, NoTablet>
-        ensures { OpenedAs (appended store.old) (appended store.new) (synced store.old) (synced store.new) who short result }
+        ensures { OpenedAs (S.appended store.old) (S.appended store.new) (S.synced store.old) (S.synced store.new) who short result }
     {
         let Ok(mut tablet) = Tablet::new(heap, who, short) else {
             return Err(NoTablet::NoMemory);

@@ -27,7 +27,7 @@ impl Keeper {
 impl Keeper {
     /// A keeper from its journal, which is cut after its last whole record. It is not up before `come_up`.
     pub fn open<S: Store>(heap: Global, long: u64, store: &mut S) -> Result<Keeper, NoKeeper>
-        ensures { OpenedAs (appended store.old) (appended store.new) (synced store.old) (synced store.new) long result }
+        ensures { OpenedAs (S.appended store.old) (S.appended store.new) (S.synced store.old) (S.synced store.new) long result }
     {
         let Ok(mut keeper) = Keeper::new(heap, long) else {
             return Err(NoKeeper::NoMemory);

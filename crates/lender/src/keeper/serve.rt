@@ -53,7 +53,7 @@ impl Keeper {
 
     // Appends the record of a reply, if there is one, and syncs.
     fn log<S: Store>(&self, store: &mut S, record: Option<Record>) -> Result<(), StoreError>
-        ensures { OnOk result (Logged (recorded_by (keeper_parts self.now) «record») (appended store.old) (synced store.old) (appended store.new) (synced store.new)) }
+        ensures { OnOk result (Logged (recorded_by (keeper_parts self.now) «record») (S.appended store.old) (S.synced store.old) (S.appended store.new) (S.synced store.new)) }
     {
         match record {
             None => Ok(()),
@@ -71,8 +71,8 @@ impl Keeper {
         ensures effect { IfOk result (λ reply. effect (keeper_parts self.new) reply ≡ heard_effect clock (read bytes.now) (keeper_book self.old) (keeper_parts self.old)) }
         ensures book { keeper_book self.new ≡ heard_book clock (read bytes.now) (keeper_book self.old) }
         ensures parts { keeper_parts self.new ≡ heard_parts clock (read bytes.now) (keeper_book self.old) (keeper_parts self.old) }
-        ensures logged { OnOk result (Logged (heard_effect clock (read bytes.now) (keeper_book self.old) (keeper_parts self.old)).records (appended store.old) (synced store.old) (appended store.new) (synced store.new)) }
-        ensures disk { OnOk result (OnDisk self.old (appended store.old) → OnDisk self.new (appended store.new)) }
+        ensures logged { OnOk result (Logged (heard_effect clock (read bytes.now) (keeper_book self.old) (keeper_parts self.old)).records (S.appended store.old) (S.synced store.old) (S.appended store.new) (S.synced store.new)) }
+        ensures disk { OnOk result (OnDisk self.old (S.appended store.old) → OnDisk self.new (S.appended store.new)) }
     {
         let reply = self.receive(clock, bytes);
         self.log(store, reply.record)?;

@@ -1,4 +1,4 @@
-use Rattle.std.proofs.Common.{◌≡◌, length, refl, arith, rules}
+use Rattle.std.proofs.Common.{◌≡◌, length, refl, arith}
 use Rattle.message.proofs.Bodies.{headless, ends, ask_ends}
 use Rattle.message.proofs.decode.ask.Goals as goal
 

@@ -1,4 +1,4 @@
-use Rattle.std.proofs.Common.{◌≡◌, length, refl, arith, rules}
+use Rattle.std.proofs.Common.{◌≡◌, length, refl, arith}
 use Rattle.message.proofs.Bodies.{headless, ends, loan_ends, carried_long}
 use Rattle.message.proofs.decode.loan.Goals as goal
 

@@ -1,4 +1,4 @@
-use Rattle.std.proofs.Common.{◌≡◌, length, refl, arith, rules}
+use Rattle.std.proofs.Common.{◌≡◌, length, refl, rules}
 use Rattle.message.proofs.Bodies.{recall_is}
 use Rattle.message.proofs.decode.recall.Goals as goal
 

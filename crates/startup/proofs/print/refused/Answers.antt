@@ -1,4 +1,4 @@
-use Rattle.std.proofs.Common.{◌≡◌, ℕ, List, ◌++◌, decimal, ap, ◌∙◌}
+use Rattle.std.proofs.Common.{ℕ, ◌++◌, decimal, ap, ◌∙◌}
 use Rattle.lines.specs.Outputs.{printed}
 use Rattle.startup.proofs.Prints.{thrice}
 use Rattle.startup.proofs.print.refused.Goals as goal

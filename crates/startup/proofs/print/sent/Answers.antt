@@ -1,4 +1,4 @@
-use Rattle.std.proofs.Common.{◌≡◌, ℕ, List, ◌++◌, ap, ◌∙◌}
+use Rattle.std.proofs.Common.{ℕ, List, ◌++◌, ap, ◌∙◌}
 use Rattle.lines.specs.Hex.{hex_text}
 use Rattle.lines.specs.Outputs.{printed}
 use Rattle.message.specs.Format.{said, layout}

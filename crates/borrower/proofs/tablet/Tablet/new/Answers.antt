@@ -12,12 +12,12 @@ pub returns : goal.returns
 returns c =
     let ps = vec_items c.resize.new.self in
     let fs = vec_items c.resize-2.new.self in
-    let pl : length ps ≡ 16384 = omega (arith, c.in-ok-resize.ensures.len) in
-    let fl : length fs ≡ 16384 = omega (arith, c.in-ok-resize-2.ensures.len) in
+    let pl : length ps ≡ 16384 = omega (arith, c.in_ok-resize.ensures.len) in
+    let fl : length fs ≡ 16384 = omega (arith, c.in_ok-resize-2.ensures.len) in
     record {
-      parts = all_same ps no_part 16384 pl (λ k d h. c.resize.ensures.by_index.1 k d (ap is_ok c.in-ok-resize.was) (omega arith) h);
-      filed = all_same fs no_numbers 16384 fl (λ k d h. c.resize-2.ensures.by_index.1 k d (ap is_ok c.in-ok-resize-2.was) (omega arith) h);
-      copies = c.in-ok-copies.ensures;
+      parts = all_same ps no_part 16384 pl (λ k d h. c.resize.ensures.by_index.1 k d (ap is_ok c.in_ok-resize.was) (omega arith) h);
+      filed = all_same fs no_numbers 16384 fl (λ k d h. c.resize-2.ensures.by_index.1 k d (ap is_ok c.in_ok-resize-2.was) (omega arith) h);
+      copies = c.in_ok-copies.ensures;
       short = refl;
       who = refl;
     }

@@ -13,7 +13,7 @@ returns-in-Err c =
     let cs = copy_at c.args.self.now in
     let refused =
     ap (λ (p : Part). (loan_of c.args.head.number c.args.kind p).1) (sym c.part.ensures)
-    ∙ ap (λ (r : Part × Result (Unit {0}) Refusal). r.1) (sym c.on-loan-answer.ensures) ∙ c.in-Err.is in
+    ∙ ap (λ (r : Part × Result (Unit {0}) Refusal). r.1) (sym c.on_loan-answer.ensures) ∙ c.in-Err.is in
     let same = ap (λ (r : Result (Unit {0}) Refusal). taken q c.args.bytes.now r cs) refused in
     record {
       effect = search rules;

@@ -18,7 +18,7 @@ returns g c =
     let was = g.S.Store.appended c.args.store.now in
     let is = g.S.Store.appended c.log.new.store in
     let L : List Rec → Type 0 = λ rs. Logged rs was (g.S.Store.synced c.args.store.now) is (g.S.Store.synced c.log.new.store) in
-    let done : L (heard_effect c.args.clock o b f).records = subst L (ap (λ (e : Effect). e.records) r.effect) c.in-ok-log.ensures in
+    let done : L (heard_effect c.args.clock o b f).records = subst L (ap (λ (e : Effect). e.records) r.effect) c.in_ok-log.ensures in
     let same : memory (keeper_book c.receive-reply.new.self) (keeper_parts c.receive-reply.new.self) ≡ memory (heard_book c.args.clock o b) (heard_parts c.args.clock o b f) =
     λ i. memory (r.book i) (r.parts i) in
     record {

@@ -14,10 +14,10 @@ returns c =
     let rows = vec_items c.resize.new.self in
     let at : (p : ℕ) → get_or rows p no_numbers ≡ no_numbers =
     λ p. elim (cases_lt p 16384) [
-      | inl h ↦ c.resize.ensures.by_index.1 p no_numbers (ap is_ok c.in-ok-resize.was) (omega arith) h ∙ c.none.ensures
+      | inl h ↦ c.resize.ensures.by_index.1 p no_numbers (ap is_ok c.in_ok-resize.was) (omega arith) h ∙ c.none.ensures
       | inr h ↦ get_or_past rows p no_numbers (omega arith)
     ] in
     same_book _ _
     (fun_ext (λ p. fun_ext (λ w. ap (λ n. get_or n.done w 0) (at p) ∙ zero 32 w)))
     (fun_ext (λ p. fun_ext (λ w. ap (λ n. get_or n.voided w 0) (at p) ∙ zero 32 w)))
-    c.in-ok-table.ensures refl refl
+    c.in_ok-table.ensures refl refl

@@ -17,7 +17,7 @@ returns c =
     let w = c.write-answer.ensures in
     record {
       effect =
-          c.write-reply.ensures (parts c.write-answer.new.files)
+          c.write_reply.ensures (parts c.write-answer.new.files)
           ∙ same_effect i q n v f (parts c.write-answer.new.files) c.write-answer.result w.parts
           ∙ ap (λ (a : WriteAnswer). write_effect i q n v a) w.answer;
       book = w.after ∙ ap (λ (a : WriteAnswer). after_write i q n a (book c.args.self.now)) w.answer;

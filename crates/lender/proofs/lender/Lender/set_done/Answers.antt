@@ -10,7 +10,7 @@ pub returns : goal.returns
 returns c =
     let rows = vec_items c.args.self.now.numbers in
     let inside : c.args.head.place.at < length rows = omega arith in
-    let row = get_or_read rows c.args.head.place.at c.index-mut.result.now inside c.index-mut.ensures.value no_numbers in
+    let row = get_or_read rows c.args.head.place.at c.index_mut.result.now inside c.index_mut.ensures.value no_numbers in
     let next = c.apply.new.self in
     let put =
     pair_put (λ (k : Numbers). k.done) no_numbers rows c.args.head.place.at c.args.head.who.id c.args.head.number next

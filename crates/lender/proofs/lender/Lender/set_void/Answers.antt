@@ -10,7 +10,7 @@ pub returns : goal.returns
 returns c =
     let rows = vec_items c.args.self.now.numbers in
     let inside : c.args.place.at < length rows = omega arith in
-    let row = get_or_read rows c.args.place.at c.index-mut.result.now inside c.index-mut.ensures.value no_numbers in
+    let row = get_or_read rows c.args.place.at c.index_mut.result.now inside c.index_mut.ensures.value no_numbers in
     let next = c.void.new.self in
     let put =
     pair_put (λ (k : Numbers). k.voided) no_numbers rows c.args.place.at c.args.who.id c.args.number next

@@ -1,4 +1,4 @@
-use Rattle.std.proofs.Common.{◌≡◌, sym, ap, ◌∙◌}
+use Rattle.std.proofs.Common.{ap, ◌∙◌}
 use Rattle.part.specs.Parts.{part_of}
 use Rattle.part.proofs.files.Files.part.Goals as goal
 

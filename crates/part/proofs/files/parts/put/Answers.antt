@@ -1,4 +1,4 @@
-use Rattle.std.proofs.Common.{◌≡◌, ap, arith}
+use Rattle.std.proofs.Common.{arith}
 use Rattle.part.proofs.Writes.{part_put}
 use Rattle.part.proofs.files.parts.put.Goals as goal
 

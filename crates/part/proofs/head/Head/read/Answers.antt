@@ -1,4 +1,3 @@
-use Rattle.std.proofs.Common.{arith}
 use Rattle.part.proofs.Numbers.{head_is}
 use Rattle.part.proofs.head.Head.read.Goals as goal
 

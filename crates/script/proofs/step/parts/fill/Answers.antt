@@ -1,4 +1,4 @@
-use Rattle.std.proofs.Common.{◌≡◌, ap, ◌∙◌, arith}
+use Rattle.std.proofs.Common.{ap, ◌∙◌, arith}
 use Rattle.lines.specs.Words.{rest_words}
 use Rattle.script.proofs.Filling.{filled_start, filled_step, filled_bad, filled_done, filled_end}
 use Rattle.script.proofs.step.parts.fill.Goals as goal
