@@ -1,21 +1,17 @@
 -- The numbers on file are at least those that were used.
 -- Assumes nothing.
-use Rattle.std.proofs.Common.{◌≡◌, ℕ, ◌+◌, ◌*◌, ◌/◌, ◌<◌, ◌≤◌, min, Bool, true, false, cond, not, ◌&&◌, ◌||◌, eqb, ltb, leb, ◌⊎◌, List, [], ◌∷◌, Ok, Err, Result, sym, refl, ap, ◌∙◌, subst, inl, inr, arith}
-use Rattle.std.proofs.lemmas.Bool.{cond_both, cond-true, cond-false, and_parts, eqb-true, leb-true, leb-false, ltb-true, ltb-false, or_parts}
+use Rattle.std.proofs.Common.{◌≡◌, ℕ, ◌+◌, ◌<◌, ◌≤◌, Bool, true, false, cond, not, ◌&&◌, ◌||◌, eqb, ltb, leb, ◌⊎◌, List, Ok, Err, Result, sym, refl, ap, subst, inl, inr, arith}
+use Rattle.std.proofs.lemmas.Bool.{cond_both, and_parts, eqb-true, leb-true, leb-false, ltb-false, or_parts}
 use Rattle.borrower.specs.declared.hold.Part.{Part}
 use Rattle.borrower.specs.declared.hold.OnFile.{OnFile}
 use Rattle.message.specs.declared.kind.Kind.{Kind}
-use Rattle.message.specs.declared.kind.Kind.TheVariants.{Reading, Writing}
 use Rattle.message.specs.declared.refusal.Refusal.{Refusal}
 use Rattle.message.specs.declared.refusal.Refusal.TheVariants.{HoldsCopy, OtherAsk, Exhausted}
-use Rattle.borrower.specs.declared.hold.Hold.{Hold}
-use Rattle.borrower.specs.declared.hold.Hold.TheVariants.{Nothing, Copy}
 use Rattle.borrower.specs.declared.hold.Asked.{Asked}
-use Rattle.borrower.specs.declared.outcome.Call.{Call}
 use Rattle.borrower.specs.declared.outcome.Call.TheVariants as call
-use Rattle.borrower.specs.Steps.{last_number, rounded, kept_of, passes, same_part, same_hold, released, stale, settled, holds, asking, ask_of, writable, wrote, write_by, write_of, lent, loan_of}
-use Rattle.borrower.specs.Outcomes.{due, ask_sends, write_sends, lent_part, call_part, call_effect}
-use Rattle.borrower.specs.Used.{on_file, Near, Used, AllUsed, Covered}
+use Rattle.borrower.specs.Steps.{rounded, kept_of, passes, same_part, released, stale, settled, holds, asking, ask_of, writable, wrote, write_by, write_of, lent}
+use Rattle.borrower.specs.Outcomes.{due, ask_sends, write_sends, call_part, call_effect}
+use Rattle.borrower.specs.Used.{on_file, Near, AllUsed, Covered}
 
 pub up : (x : ℕ) → x ≤ 4294967295 → x ≤ rounded x
 up x h = omega arith

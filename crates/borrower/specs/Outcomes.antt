@@ -1,6 +1,6 @@
 -- What comes of each call and each message at a borrower: the record, what is sent, what the writer is told, and the answer.
 -- Assumes nothing.
-use Rattle.std.specs.Prelude.{◌≡◌, ℕ, Bool, true, false, cond, not, ◌&&◌, List, [], ◌∷◌, replicate, Some, None, Ok, Err, Option, Result, ◌==◌}
+use Rattle.std.specs.Prelude.{◌≡◌, ℕ, Bool, cond, not, ◌&&◌, List, [], ◌∷◌, replicate, Some, None, Ok, Err, Option, Result, ◌==◌}
 use Rattle.part.specs.Parts.{at_1, blank}
 use Rattle.part.specs.declared.who.Who.{Who}
 use Rattle.message.specs.declared.kind.Kind.{Kind}

@@ -1,6 +1,6 @@
 -- The numbers on file are at least those that were used, that is, sent in a message.
 -- Assumes nothing.
-use Rattle.std.specs.Prelude.{◌≡◌, ℕ, ◌+◌, ◌≤◌, min, cond, List, [], ◌∷◌}
+use Rattle.std.specs.Prelude.{◌≡◌, ℕ, ◌+◌, ◌≤◌, cond, List, [], ◌∷◌}
 use Rattle.message.specs.declared.kind.Kind.{Kind}
 use Rattle.message.specs.Format.{Msg, Ask, Loan, Write, In, Void, Recall, Back}
 use Rattle.borrower.specs.declared.hold.Part.{Part}

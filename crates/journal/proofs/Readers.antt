@@ -4,7 +4,6 @@ use Rattle.std.proofs.Common.{◌≡◌, ℕ, ◌+◌, ◌-◌, ◌*◌, ◌/◌
 use Rattle.std.proofs.lemmas.List.{length-take-le, length-drop, length-append, drop-take, drop-drop, take-append-drop, drop_all, drop_at, take_rest, append-nil}
 use Rattle.part.specs.Bytes.{four, headed}
 use Rattle.part.proofs.Numbers.{peel}
-use Rattle.message.specs.declared.form.Malformed.{Malformed}
 use Rattle.std.proofs.lemmas.Slice.{first_rest}
 use Rattle.message.specs.Format.{carried}
 use Rattle.journal.specs.declared.record.Owner.{Owner}

@@ -1,6 +1,6 @@
 -- What writing a record leaves, one write after another.
 -- Assumes nothing.
-use Rattle.std.proofs.Common.{◌≡◌, ℕ, ◌+◌, ◌/◌, ◌%◌, ◌≤◌, List, [], ◌∷◌, ◌++◌, length, drop, set, refl, arith}
+use Rattle.std.proofs.Common.{◌≡◌, ℕ, ◌/◌, ◌%◌, ◌≤◌, List, [], ◌∷◌, ◌++◌, length, drop, set, refl, arith}
 use Rattle.part.specs.Bytes.{placed, four, headed}
 use Rattle.part.proofs.Writes.{next}
 use Rattle.journal.specs.Records.{Rec, Applied, Numbers, layout}

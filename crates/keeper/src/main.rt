@@ -13,6 +13,7 @@ use startup::print::refused;
 use startup::terms;
 use std::env;
 use std::io::Write;
+use std::process::ExitCode;
 
 mod line;
 mod print;
@@ -73,14 +74,16 @@ fn run(rt: &HostRuntime) -> anyhow::Result<()> {
     };
     match terms(rate.as_bytes(), short.as_bytes(), long.as_bytes()) {
         Ok(terms) => start(rt, terms.long, path.as_str()),
-        Err(why) => Err(why.text().into()),
+        Err(why) => Err(anyhow!(why.text())),
     }
 }
 
-fn main(rt: HostRuntime) -> anyhow::Result<()> {
-    let result = run(&rt);
-    if let Err(why) = &result {
-        eprintln!(rt; "keeper: {why}")?;
+fn main(rt: HostRuntime) -> ExitCode {
+    match run(&rt) {
+        Ok(()) => ExitCode::SUCCESS,
+        Err(why) => {
+            let _ = eprintln!(rt; "keeper: {why}");
+            ExitCode::FAILURE
+        }
     }
-    result
 }

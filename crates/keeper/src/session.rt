@@ -33,7 +33,7 @@ impl<S: Store> Session<S> {
     /// A line comes: what the keeper sends and answers is printed. `buffer` is for the bytes of a message: one more than the
     /// longest message has, so that no longer one is taken for a message.
     pub fn hear(&mut self, line: &[u8], buffer: &mut [u8], out: &mut Output) -> anyhow::Result<()>
-        ensures { OnOk result (Settled self.old.keeper (appended self.old.store) (synced self.old.store) → Settled self.new.keeper (appended self.new.store) (synced self.new.store)) }
+        ensures { OnOk result (Settled self.old.keeper (S.appended self.old.store) (S.synced self.old.store) → Settled self.new.keeper (S.appended self.new.store) (S.synced self.new.store)) }
     {
         let Some(heard) = parse(line, buffer) else {
             refused(out, Refusal::Malformed)?;
@@ -63,7 +63,7 @@ impl<S: Store> Session<S> {
 
     // A message comes.
     fn serve(&mut self, clock: u64, message: &[u8], out: &mut Output) -> anyhow::Result<()>
-        ensures { OnOk result (Settled self.old.keeper (appended self.old.store) (synced self.old.store) → Settled self.new.keeper (appended self.new.store) (synced self.new.store)) }
+        ensures { OnOk result (Settled self.old.keeper (S.appended self.old.store) (S.synced self.old.store) → Settled self.new.keeper (S.appended self.new.store) (S.synced self.new.store)) }
     {
         let Ok(reply) = self.keeper.serve(&mut self.store, clock, message) else {
             return Err(anyhow!("the journal could not be written and synced"));

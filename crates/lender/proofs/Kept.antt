@@ -1,8 +1,8 @@
 -- What memory has after a message is what it had, with the records of the message replayed.
 -- Assumes nothing.
-use Rattle.std.proofs.Common.{◌≡◌, ℕ, true, false, List, Some, None, Option, refl}
+use Rattle.std.proofs.Common.{◌≡◌, ℕ, true, false, List, Some, None, refl}
 use Rattle.message.specs.declared.kind.Kind.{Kind}
-use Rattle.message.specs.Format.{Msg, Ask, Loan, Write, In, Void, Recall, Back}
+use Rattle.message.specs.Format.{Ask, Loan, Write, In, Void, Recall, Back}
 use Rattle.lender.specs.declared.answer.AskAnswer.{AskAnswer}
 use Rattle.lender.specs.declared.answer.AskAnswer.TheVariants as ask
 use Rattle.lender.specs.declared.answer.WriteAnswer.{WriteAnswer}

@@ -1,13 +1,12 @@
 -- The journal goes on replaying to what memory has.
 -- Assumes nothing.
-use Rattle.std.proofs.Common.{◌≡◌, ℕ, ◌<◌, true, false, List, [], ◌∷◌, ◌++◌, Some, None, Option, sym, refl, ap, ◌∙◌, subst, append_assoc, append-nil}
-use Rattle.message.specs.declared.kind.Kind.{Kind}
+use Rattle.std.proofs.Common.{◌≡◌, ℕ, ◌<◌, true, false, List, [], ◌∷◌, ◌++◌, Some, None, Option, sym, refl, ap, ◌∙◌, append_assoc, append-nil}
 use Rattle.message.specs.Format.{Msg, Ask, Loan, Write, In, Void, Recall, Back}
 use Rattle.message.specs.Format as format
 use Rattle.message.specs.Reading.{read}
 use Rattle.message.proofs.Reading.{read_some}
 use Rattle.journal.specs.declared.record.Owner.TheVariants.{Keeper as keeper}
-use Rattle.journal.specs.Records.{Rec, layout, Sound, AllSound, bytes_of, records_of}
+use Rattle.journal.specs.Records.{Rec, layout, AllSound, bytes_of, records_of}
 use Rattle.journal.specs.Replays.{Through}
 use Rattle.journal.proofs.Journals.{front_is_records, read_back, torn_end}
 use Rattle.part.specs.Bytes.{Named}

@@ -1,6 +1,6 @@
 -- The refusal of each answer of the keeper.
 -- Assumes nothing.
-use Rattle.std.specs.Prelude.{Bool, true, false, Ok, Err, Result}
+use Rattle.std.specs.Prelude.{Ok, Err, Result}
 use Rattle.message.specs.declared.refusal.Refusal.{Refusal}
 use Rattle.message.specs.declared.refusal.Refusal.TheVariants as refusal
 use Rattle.lender.specs.declared.answer.AskAnswer.{AskAnswer}

@@ -2,7 +2,6 @@
 -- Assumes nothing.
 use Rattle.std.specs.Prelude.{◌≡◌, ℕ, List, Ok, Err, Result}
 use Rattle.journal.specs.declared.record.Owner.TheVariants as owner
-use Rattle.journal.specs.declared.replay.OpenError.{OpenError}
 use Rattle.journal.specs.declared.replay.OpenError.TheVariants as why
 use Rattle.journal.specs.Records.{records_of, bytes_of}
 use Rattle.journal.specs.Reading.{Refused}

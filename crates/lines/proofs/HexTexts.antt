@@ -1,8 +1,8 @@
 -- What the digits of a hexadecimal text stand for.
 -- Assumes nothing.
-use Rattle.std.proofs.Common.{◌≡◌, ℕ, zero, suc, ◌+◌, ◌-◌, ◌*◌, ◌/◌, ◌%◌, ◌<◌, ◌≤◌, min, Bool, true, false, cond, ◌&&◌, ltb, leb, List, [], ◌∷◌, ◌++◌, length, get_or, take, drop, set, is_some, Some, None, Option, unwrap_or, sym, refl, ap, ◌∙◌, inl, inr, arith}
+use Rattle.std.proofs.Common.{◌≡◌, ℕ, zero, suc, ◌+◌, ◌-◌, ◌*◌, ◌/◌, ◌%◌, ◌<◌, ◌≤◌, min, Bool, true, ◌&&◌, ltb, leb, List, [], ◌∷◌, ◌++◌, length, get_or, take, drop, set, is_some, Some, Option, unwrap_or, sym, refl, ap, ◌∙◌, inl, inr, arith}
 use Rattle.std.proofs.lemmas.List.{at_drop_more, drop_more, take_more, set_at, take_all, drop_all, length-take-le, append_assoc}
-use Rattle.std.proofs.lemmas.Bool.{cond_both, cond-true, cond-false, cases_lt, leb-true, le-leb, lt-leb, ltb-true, ltb-false, lt-ltb, eq-eqb, and_parts, and_from, and_left, and_right}
+use Rattle.std.proofs.lemmas.Bool.{cond_both, cond-true, cond-false, cases_lt, leb-true, le-leb, lt-leb, ltb-true, ltb-false, lt-ltb, eq-eqb, and_parts, and_from, and_right}
 use Rattle.lines.specs.Hex.{hex_digit, hex_value, all_hex, is_hex, hex_bytes, fronted, hex_letter, hex_text}
 
 between_true : (a b n : ℕ) → (leb a n && leb n b) ≡ true → n ≤ b

@@ -39,11 +39,11 @@ fn hexadecimal(rt: HostRuntime) {
 #[test]
 fn words(rt: HostRuntime) -> Result<(), Fail> {
     let (word, rest) = split(b"a  b");
-    assert!(rt; word == b"a");
+    assert!(rt; word == b"a".as_slice());
     let (word, rest) = split(rest.ok_or("a space")?);
     assert!(rt; word.is_empty());
     let (word, rest) = split(rest.ok_or("a space")?);
-    assert!(rt; word == b"b");
+    assert!(rt; word == b"b".as_slice());
     assert!(rt; rest.is_none());
     Ok(())
 }
@@ -62,7 +62,7 @@ fn printing(rt: HostRuntime) -> Result<(), Fail> {
     out.text(" ")?;
     out.trimmed(&[0, 0])?;
     out.end_line()?;
-    assert!(rt; out.as_slice() == b"sent 0 18446744073709551615 00ab 00ab -\n");
+    assert!(rt; out.as_slice() == b"sent 0 18446744073709551615 00ab 00ab -\n".as_slice());
     out.clear();
     assert!(rt; out.as_slice().is_empty());
     Ok(())

@@ -9,6 +9,7 @@ use stage::Stage;
 use startup::terms;
 use std::env;
 use std::io::Write;
+use std::process::ExitCode;
 
 mod node;
 mod print;
@@ -48,14 +49,16 @@ fn run(rt: &HostRuntime) -> anyhow::Result<()> {
     };
     match terms(rate.as_bytes(), short.as_bytes(), long.as_bytes()) {
         Ok(terms) => play(rt, Stage::new(rt.alloc(), terms)?),
-        Err(why) => Err(why.text().into()),
+        Err(why) => Err(anyhow!(why.text())),
     }
 }
 
-fn main(rt: HostRuntime) -> anyhow::Result<()> {
-    let result = run(&rt);
-    if let Err(why) = &result {
-        eprintln!(rt; "rehearse: {why}")?;
+fn main(rt: HostRuntime) -> ExitCode {
+    match run(&rt) {
+        Ok(()) => ExitCode::SUCCESS,
+        Err(why) => {
+            let _ = eprintln!(rt; "rehearse: {why}");
+            ExitCode::FAILURE
+        }
     }
-    result
 }

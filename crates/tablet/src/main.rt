@@ -15,6 +15,7 @@ use startup::print::refused;
 use startup::terms;
 use std::env;
 use std::io::Write;
+use std::process::ExitCode;
 
 mod line;
 mod print;
@@ -69,31 +70,33 @@ fn run(rt: &HostRuntime) -> anyhow::Result<()> {
     let mut args = env::args(rt)?;
     let _ = args.next();
     let Some(rate) = args.next() else {
-        return Err(WANTED.into());
+        return Err(anyhow!(WANTED));
     };
     if rate.as_str() == "--help" {
         rt.print(USAGE)?;
         return Ok(());
     }
     let (Some(short), Some(long), Some(id)) = (args.next(), args.next(), args.next()) else {
-        return Err(WANTED.into());
+        return Err(anyhow!(WANTED));
     };
     let (Some(path), None) = (args.next(), args.next()) else {
-        return Err(WANTED.into());
+        return Err(anyhow!(WANTED));
     };
     let Some(who) = borrower(id.as_bytes()) else {
         return Err(anyhow!("BORROWER is a number from 0 to 31"));
     };
     match terms(rate.as_bytes(), short.as_bytes(), long.as_bytes()) {
         Ok(terms) => start(rt, terms.short, who, path.as_str()),
-        Err(why) => Err(why.text().into()),
+        Err(why) => Err(anyhow!(why.text())),
     }
 }
 
-fn main(rt: HostRuntime) -> anyhow::Result<()> {
-    let result = run(&rt);
-    if let Err(why) = &result {
-        eprintln!(rt; "tablet: {why}")?;
+fn main(rt: HostRuntime) -> ExitCode {
+    match run(&rt) {
+        Ok(()) => ExitCode::SUCCESS,
+        Err(why) => {
+            let _ = eprintln!(rt; "tablet: {why}");
+            ExitCode::FAILURE
+        }
     }
-    result
 }

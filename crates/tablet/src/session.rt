@@ -58,7 +58,7 @@ impl<S: Store> Session<S> {
     // A message comes.
     fn receive(&mut self, message: &[u8], out: &mut Output) -> anyhow::Result<()> {
         let Ok(outcome) = self.tablet.hear(&mut self.store, message) else {
-            return Err(NO_JOURNAL.into());
+            return Err(anyhow!(NO_JOURNAL));
         };
         print::outcome(out, outcome, &[0; 1024])?;
         Ok(())
@@ -73,7 +73,7 @@ impl<S: Store> Session<S> {
         out: &mut Output,
     ) -> anyhow::Result<()> {
         let Ok(outcome) = self.tablet.call(&mut self.store, clock, place, call) else {
-            return Err(NO_JOURNAL.into());
+            return Err(anyhow!(NO_JOURNAL));
         };
         print::outcome(out, outcome, &[0; 1024])?;
         Ok(())
@@ -82,7 +82,7 @@ impl<S: Store> Session<S> {
     // The bytes leave only where the call is done, and after its record is synced.
     fn show(&mut self, clock: u64, place: Place, out: &mut Output) -> anyhow::Result<()> {
         let Ok(outcome) = self.tablet.call(&mut self.store, clock, place, Call::Show) else {
-            return Err(NO_JOURNAL.into());
+            return Err(anyhow!(NO_JOURNAL));
         };
         if outcome.answer.is_ok() {
             print::shown(out, place, self.tablet.copy(place))?;
@@ -106,7 +106,7 @@ impl<S: Store> Session<S> {
             return Err(anyhow!("the buffer is too short for a part"));
         };
         let Ok(outcome) = self.tablet.call(&mut self.store, clock, place, Call::Write) else {
-            return Err(NO_JOURNAL.into());
+            return Err(anyhow!(NO_JOURNAL));
         };
         print::outcome(out, outcome, bytes)?;
         Ok(())

@@ -1,4 +1,4 @@
-use Rattle.std.proofs.Common.{◌≡◌, ℕ, List, [], ◌∷◌, ◌++◌, Option, sym, ap, ◌∙◌, append-nil}
+use Rattle.std.proofs.Common.{◌≡◌, ℕ, List, ◌++◌, Option, sym, ap, ◌∙◌, append-nil}
 use Rattle.journal.specs.declared.record.Record.{Record}
 use Rattle.journal.specs.Records.{recorded, layout, bytes_of}
 use Rattle.journal.specs.Logs.{logged}

@@ -1,4 +1,4 @@
-use Rattle.std.proofs.Common.{◌≡◌, ◌<◌, length, drop}
+use Rattle.std.proofs.Common.{◌≡◌, drop}
 use Rattle.lines.proofs.Numerals.{read_on}
 use Rattle.lines.proofs.decimal.number.Given as goal
 

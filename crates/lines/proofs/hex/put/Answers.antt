@@ -1,5 +1,5 @@
-use Rattle.std.proofs.Common.{◌≡◌, ℕ, ◌+◌, ◌*◌, List, set, sym, ap, ◌∙◌, arith}
-use Rattle.lines.specs.Hex.{hex_value, hex_bytes}
+use Rattle.std.proofs.Common.{ℕ, ◌+◌, ◌*◌, List, set, sym, ap, ◌∙◌, arith}
+use Rattle.lines.specs.Hex.{hex_bytes}
 use Rattle.lines.proofs.HexTexts.{length_bytes, byte_at, front_step, front_done}
 use Rattle.lines.proofs.hex.put.Goals as goal
 

@@ -1,4 +1,4 @@
-use Rattle.std.proofs.Common.{◌≡◌, ℕ, ◌<◌, Option, unwrap_or, sym, ap, ◌∙◌, subst, arith}
+use Rattle.std.proofs.Common.{◌≡◌, ℕ, Option, unwrap_or, ap, ◌∙◌, arith}
 use Rattle.lines.specs.Hex.{hex_value}
 use Rattle.lines.proofs.HexTexts.{value_small}
 use Rattle.lines.proofs.hex.value.Goals as goal

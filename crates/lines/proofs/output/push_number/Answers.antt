@@ -1,4 +1,4 @@
-use Rattle.std.proofs.Common.{◌≡◌, ℕ, List, vec_items, Result, refl, ap, ◌∙◌, arith}
+use Rattle.std.proofs.Common.{ℕ, List, vec_items, Result, refl, ap, ◌∙◌, arith}
 use Rattle.std.specs.declared.alloc.AllocError.{AllocError}
 use Rattle.lines.specs.Outputs.{appended_to}
 use Rattle.lines.proofs.Prints.{spelled_start, spelled_step, spelled_room, spelled_last}

@@ -1,4 +1,4 @@
-use Rattle.std.proofs.Common.{◌≡◌, sym, arith}
+use Rattle.std.proofs.Common.{arith}
 use Rattle.lines.proofs.Splits.{find_step, find_here, find_end}
 use Rattle.lines.proofs.words.find.Goals as goal
 

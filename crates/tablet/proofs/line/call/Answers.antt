@@ -1,5 +1,5 @@
-use Rattle.std.proofs.Common.{◌≡◌, ℕ, List, ◌∷◌, Option, sym, ap, ◌∙◌, Bor}
-use Rattle.lines.specs.Words.{words, rest_words}
+use Rattle.std.proofs.Common.{ℕ, List, ◌∷◌, Option, sym, ap, ◌∙◌, Bor}
+use Rattle.lines.specs.Words.{rest_words}
 use Rattle.lines.proofs.Splits.{words_split}
 use Rattle.tablet.specs.Lines.{act_of}
 use Rattle.tablet.proofs.line.call.Goals as goal

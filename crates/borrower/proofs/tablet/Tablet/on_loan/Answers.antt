@@ -1,4 +1,4 @@
-use Rattle.std.proofs.Common.{◌≡◌, ℕ, cond, eqb, List, Result, sym, refl, ap, ◌∙◌, rules}
+use Rattle.std.proofs.Common.{eqb, Result, sym, ap, ◌∙◌, rules}
 use Rattle.std.proofs.lemmas.Bool.{cond-true, eq-eqb}
 use Rattle.message.specs.declared.refusal.Refusal.{Refusal}
 use Rattle.borrower.specs.declared.hold.Part.{Part}

@@ -1,10 +1,10 @@
-use Rattle.std.proofs.Common.{◌≡◌, ℕ, List, ap, ◌∙◌, subst, rules}
+use Rattle.std.proofs.Common.{◌≡◌, List, ap, ◌∙◌, subst}
 use Rattle.message.specs.Reading.{read}
 use Rattle.journal.specs.Records.{Rec}
 use Rattle.journal.specs.Logs.{Logged}
 use Rattle.lender.specs.Book.{keeper_book, keeper_parts}
 use Rattle.lender.specs.Replies.{Effect, heard_effect, heard_book, heard_parts}
-use Rattle.lender.specs.Replay.{Memory, memory}
+use Rattle.lender.specs.Replay.{memory}
 use Rattle.lender.proofs.Kept.{kept}
 use Rattle.lender.proofs.OnDisk.{holds_more, all_sound}
 use Rattle.lender.proofs.keeper.Keeper.serve.Goals as goal

@@ -1,4 +1,4 @@
-use Rattle.std.proofs.Common.{◌≡◌, ℕ, List, sym, ap, ◌∙◌, rules}
+use Rattle.std.proofs.Common.{ap, ◌∙◌}
 use Rattle.part.specs.Parts.{parts}
 use Rattle.lender.specs.declared.answer.WriteAnswer.{WriteAnswer}
 use Rattle.lender.specs.Book.{book}

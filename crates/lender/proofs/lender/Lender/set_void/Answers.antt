@@ -1,4 +1,4 @@
-use Rattle.std.proofs.Common.{◌≡◌, ◌<◌, length, get_or, set, vec_items, refl, ap, ◌∙◌, arith}
+use Rattle.std.proofs.Common.{◌<◌, length, set, vec_items, refl, ap, ◌∙◌, arith}
 use Rattle.std.proofs.lemmas.List.{get_or_read}
 use Rattle.lender.specs.declared.numbers.Numbers.{Numbers}
 use Rattle.lender.specs.Numbering.{no_numbers}

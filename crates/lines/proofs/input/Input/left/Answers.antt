@@ -1,4 +1,4 @@
-use Rattle.std.proofs.Common.{◌≡◌, ℕ, List, drop, ap, ◌∙◌, arith, rules}
+use Rattle.std.proofs.Common.{ℕ, List, drop, ap, ◌∙◌, rules}
 use Rattle.std.proofs.lemmas.List.{take_rest}
 use Rattle.lines.proofs.input.Input.left.Goals as goal
 

@@ -1,4 +1,4 @@
-use Rattle.std.proofs.Common.{◌≡◌, length, ap, ◌∙◌, arith}
+use Rattle.std.proofs.Common.{length, ap, arith}
 use Rattle.lines.specs.Inputs.{rest}
 use Rattle.lines.proofs.Handing.{reading_start, reading_more, reading_over, handed_whole, handed_last}
 use Rattle.lines.proofs.input.Input.next_line.Goals as goal

@@ -1,6 +1,5 @@
 use Rattle.std.proofs.Common.{◌≡◌, ℕ, ◌<◌, ◌≤◌, List, length, drop, vec_items, refl, ap, ◌∙◌, arith}
 use Rattle.lines.specs.Words.{before}
-use Rattle.lines.specs.Inputs.{rest}
 use Rattle.lines.proofs.Handing as handing
 use Rattle.lines.proofs.input.Input.take_line.Goals as goal
 

@@ -1,4 +1,4 @@
-use Rattle.std.proofs.Common.{◌≡◌, ℕ, List, Result, sym, ap, ◌∙◌, arith}
+use Rattle.std.proofs.Common.{ℕ, List, Result, sym, ap, ◌∙◌, arith}
 use Rattle.std.proofs.lemmas.Bool.{eqb-true, eqb-false}
 use Rattle.std.specs.declared.alloc.AllocError.{AllocError}
 use Rattle.lines.specs.Outputs.{printed, appended_to}
