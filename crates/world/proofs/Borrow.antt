@@ -1,6 +1,6 @@
 -- What a borrower does keeps what holds.
 -- Assumes nothing.
-use Rattle.std.proofs.Common.{◌≡◌, ℕ, ◌<◌, Bool, cond, eqb, ◌⊎◌, List, ◌++◌, sym, refl, subst, inl, inr, arith}
+use Rattle.std.proofs.Common.{◌≡◌, ℕ, eqb, ◌⊎◌, List, ◌++◌, sym, subst, inl, inr, arith}
 use mathlib.Core.List.Memᴰ
 use mathlib.Core.List.{Memᴰ}
 use Rattle.std.proofs.lemmas.Bool.{eqb-true, eqb-false, cond_both}
@@ -10,7 +10,7 @@ use Rattle.message.specs.Format.{Msg, Ask, Loan, Write, In, Void, Recall, Back}
 use Rattle.borrower.specs.declared.hold.Part.{Part}
 use Rattle.borrower.specs.declared.hold.OnFile.{OnFile}
 use Rattle.borrower.specs.Used.{Near}
-use Rattle.world.proofs.Inv.{Setting, State, who, place, NoLoan, Live, Fine, Held, Inv, Moved, live_moved, fine_moved, Newer}
+use Rattle.world.proofs.Inv.{Setting, State, who, place, NoLoan, Fine, Held, Inv, Moved, live_moved, fine_moved, Newer}
 
 -- what holds of the one that changed and of all others holds of all
 pub at_both : {A : Type 0} (i : ℕ) (v : A) (f : ℕ → A) (P : ℕ → A → Type 0) → P i v → ((j : ℕ) → (j ≡ i → ⊥) → P j (f j)) → (j : ℕ) → P j (at_1 i v f j)

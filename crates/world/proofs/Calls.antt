@@ -1,6 +1,6 @@
 -- Each call and each message at a borrower keeps what holds.
 -- Assumes nothing.
-use Rattle.std.proofs.Common.{◌≡◌, ℕ, suc, ◌+◌, ◌^◌, ◌<◌, ◌≤◌, min, Bool, true, false, cond, ◌||◌, eqb, leb, ◌⊎◌, List, [], ◌∷◌, ◌++◌, Ok, Err, Result, sym, refl, ap, ◌∙◌, subst, inl, inr, arith}
+use Rattle.std.proofs.Common.{◌≡◌, ℕ, suc, ◌+◌, ◌^◌, ◌<◌, ◌≤◌, false, ◌||◌, eqb, leb, ◌⊎◌, List, [], ◌∷◌, ◌++◌, Ok, Err, Result, sym, refl, ap, ◌∙◌, subst, inl, inr, arith}
 use mathlib.Core.List.Memᴰ
 use mathlib.Core.List.{Memᴰ}
 use Rattle.std.proofs.lemmas.Bool.{cond_both, eqb-true, eq-eqb, ne_eqb, leb-false, or_parts, cases_lt, both_ways}
@@ -11,20 +11,20 @@ use Rattle.message.specs.declared.refusal.Refusal.{Refusal}
 use Rattle.message.specs.declared.refusal.Refusal.TheVariants.{HoldsCopy, OtherAsk, Exhausted}
 use Rattle.message.specs.Format.{Msg, Ask, Loan, Write, Back}
 use Rattle.borrower.specs.declared.hold.Hold.{Hold}
-use Rattle.borrower.specs.declared.hold.Hold.TheVariants.{Nothing, Copy}
+use Rattle.borrower.specs.declared.hold.Hold.TheVariants.{Copy}
 use Rattle.borrower.specs.declared.hold.Part.{Part}
 use Rattle.borrower.specs.declared.hold.OnFile.{OnFile}
 use Rattle.borrower.specs.declared.hold.Asked.{Asked}
 use Rattle.borrower.specs.Steps.{last_number, holds, released, settled, asking, ask_of, writable, wrote, write_by, write_of, lent, loan_of}
 use Rattle.borrower.specs.Outcomes.{ask_sends, write_sends, taken}
 use Rattle.borrower.specs.Used.{Near, on_file}
-use Rattle.borrower.proofs.Used.{Small, After, after, filed_up, Settled, settling, small_write, released_small, recall_covered}
-use Rattle.world.specs.World.{World, Borrower, with_borrower}
+use Rattle.borrower.proofs.Used.{Small, after, filed_up, Settled, settling, small_write, released_small, recall_covered}
+use Rattle.world.specs.World.{World, with_borrower}
 use Rattle.world.specs.Runs.{Put}
-use Rattle.world.proofs.Inv.{Setting, NoLoan, Held, Inv, Moved, moved_refl, moved_trans, Each}
-use Rattle.world.proofs.Move.{nothing≢copy, overtake, release_moves, filing_moves, settle_moves, none_held, settle_held}
+use Rattle.world.proofs.Inv.{Setting, Held, Inv, Moved, moved_refl, moved_trans}
+use Rattle.world.proofs.Move.{overtake, release_moves, filing_moves, settle_moves, none_held, settle_held}
 use Rattle.world.proofs.Borrow.{held_more, WriteOf}
-use Rattle.world.proofs.View.{view, g, stepped, About, part_moves}
+use Rattle.world.proofs.View.{view, stepped, part_moves}
 
 holds_none : (h : Hold) → holds h ≡ false → (k : Kind) (a : ℕ) → h ≡ Copy k a → ⊥
 holds_none h e k a c = both_ways (holds h) e (ap holds c)

@@ -1,34 +1,31 @@
 -- The whole invariant of a run, and what a borrower's events do to it.
 -- Assumes nothing.
-use Rattle.std.proofs.Common.{◌≡◌, ℕ, suc, ◌+◌, ◌<◌, ◌≤◌, Bool, true, false, cond, eqb, leb, ◌⊎◌, List, [], ◌∷◌, ◌++◌, map, length, Some, None, Ok, Option, sym, refl, ap, ◌∙◌, subst, inl, inr, append-nil, arith}
+use Rattle.std.proofs.Common.{◌≡◌, ℕ, ◌+◌, ◌<◌, ◌≤◌, Bool, true, false, cond, eqb, leb, List, [], ◌∷◌, ◌++◌, map, length, Some, sym, refl, ap, ◌∙◌, subst, append-nil, arith}
 use mathlib.Core.List.{Memᴰ}
-use Rattle.std.proofs.lemmas.Bool.{cond_both, eqb-true}
-use Rattle.part.specs.Parts.{at_1, blank}
-use Rattle.clock.specs.Moments.{Moment}
-use Rattle.message.specs.Format.{Msg, Ask, Loan, Write, In, Void, Recall, Back, WellFormed, layout}
+use Rattle.std.proofs.lemmas.Bool.{cond_both}
+use Rattle.part.specs.Parts.{at_1}
+use Rattle.message.specs.Format.{Msg, WellFormed, layout}
 use Rattle.journal.specs.declared.record.Owner.TheVariants as owner
 use Rattle.journal.specs.Records.{Rec, Numbers, AllSound, bytes_of, records_of}
 use Rattle.lender.specs.Replay.{memory}
 use Rattle.borrower.specs.declared.hold.Part.{Part}
 use Rattle.borrower.specs.declared.hold.OnFile.{OnFile}
-use Rattle.borrower.specs.declared.outcome.Call.{Call}
-use Rattle.borrower.specs.declared.outcome.Call.TheVariants as call
-use Rattle.borrower.specs.Steps.{last_number, rounded, kept_of, risen, released, settled, loan_of, recall_of}
+use Rattle.borrower.specs.Steps.{last_number, rounded, kept_of, risen}
 use Rattle.borrower.specs.Opened.{said}
 use Rattle.borrower.specs.Tablets.{no_numbers}
-use Rattle.borrower.specs.Outcomes.{due, filed_after, call_part, call_effect, lent_part, taken, heard_effect, heard_parts, heard_filed, heard_copies}
+use Rattle.borrower.specs.Outcomes.{due}
 use Rattle.borrower.specs.Outcomes.{records_of as numbers_due}
 use Rattle.borrower.specs.Used.{Near, on_file}
-use Rattle.borrower.proofs.Used.{covered, filed_up, Small, small_write}
-use Rattle.world.specs.World.{World, Lender, Borrower, with_borrower, with_sent, numbers_in, borrower_down, borrower_up, torn_file, recovered, after_call}
+use Rattle.borrower.proofs.Used.{filed_up, Small}
+use Rattle.world.specs.World.{World, Lender, Borrower, with_borrower, with_sent, numbers_in, borrower_down, borrower_up, torn_file, recovered}
 use Rattle.world.specs.Runs.{Put, puts, Run, whole}
 use Rattle.world.proofs.Inv.{Setting, Inv, Moved, moved_refl, Each, Held}
 use Rattle.world.proofs.Move.{rise_moves, none_held}
 use Rattle.world.proofs.Borrow.{at_both, held_more}
 use Rattle.world.proofs.View.{view, stepped, one_moves, filed_is}
-use Rattle.world.proofs.Calls.{nobody, still, ask_inv, write_inv, forget_inv, recall_inv, loan_inv}
+use Rattle.world.proofs.Calls.{nobody}
 use Rattle.world.proofs.Files.{Journal, Few, said_append, grown_records, grown_journal, torn_records, said_due, cut_journal}
-use Rattle.world.proofs.Wire.{more_formed, more_wire, near_small, call_formed}
+use Rattle.world.proofs.Wire.{more_formed, more_wire, near_small}
 
 abbrev pub setting : World → Setting
 setting w = record { short = w.short; long = w.keeper.book.long }

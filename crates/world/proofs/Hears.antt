@@ -1,21 +1,21 @@
 -- A borrower's calls and messages, whole or torn, keep the whole invariant.
 -- Assumes nothing.
-use Rattle.std.proofs.Common.{◌≡◌, ℕ, suc, ◌<◌, ◌≤◌, Bool, true, false, cond, eqb, List, [], ◌∷◌, ◌++◌, length, Some, None, Ok, Option, sym, refl, subst, arith}
+use Rattle.std.proofs.Common.{◌≡◌, ℕ, suc, ◌<◌, Bool, true, false, cond, eqb, List, [], ◌∷◌, ◌++◌, length, Some, None, Ok, Option, sym, refl, subst, arith}
 use mathlib.Core.List.{Memᴰ}
-use Rattle.std.proofs.lemmas.Bool.{cond_both, eqb-true}
+use Rattle.std.proofs.lemmas.Bool.{eqb-true}
 use Rattle.part.specs.Parts.{at_1}
 use Rattle.message.specs.declared.kind.Kind.{Kind}
-use Rattle.message.specs.Format.{Msg, Ask, Loan, Write, In, Void, Recall, Back, WellFormed}
+use Rattle.message.specs.Format.{Msg, Ask, Loan, Write, In, Void, Recall, Back}
 use Rattle.journal.specs.Records.{bytes_of}
 use Rattle.borrower.specs.declared.hold.Part.{Part}
 use Rattle.borrower.specs.declared.hold.OnFile.{OnFile}
 use Rattle.borrower.specs.declared.outcome.Call.{Call}
 use Rattle.borrower.specs.declared.outcome.Call.TheVariants as call
 use Rattle.borrower.specs.Steps.{released, loan_of}
-use Rattle.borrower.specs.Outcomes.{Effect, call_part, call_effect, lent_part, taken, told, turned_away, step_effect, filed_after, heard_effect, heard_parts, heard_filed, heard_copies}
+use Rattle.borrower.specs.Outcomes.{Effect, call_part, lent_part, taken, told, turned_away, step_effect, filed_after, heard_effect, heard_parts, heard_filed, heard_copies}
 use Rattle.borrower.specs.Outcomes.{records_of as numbers_due}
 use Rattle.borrower.specs.Used.{Near, on_file}
-use Rattle.borrower.proofs.Used.{covered, Small, small_write, after}
+use Rattle.borrower.proofs.Used.{covered, Small}
 use Rattle.world.specs.World.{World, Borrower, with_borrower, with_sent, borrower_down, torn_file, after_call}
 use Rattle.world.specs.World as world
 use Rattle.world.specs.Runs.{Run}

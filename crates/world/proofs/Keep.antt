@@ -1,23 +1,22 @@
 -- What the keeper does keeps what holds.
 -- Assumes nothing.
-use Rattle.std.proofs.Common.{◌≡◌, ℕ, suc, ◌+◌, ◌^◌, ◌<◌, ◌≤◌, max, Bool, true, false, cond, not, ◌&&◌, ◌||◌, eqb, ltb, leb, ◌⊎◌, List, [], ◌∷◌, ◌++◌, count_by, filter, sym, refl, ap, ◌∙◌, subst, inl, inr, true≢false, arith}
+use Rattle.std.proofs.Common.{◌≡◌, ℕ, suc, ◌+◌, ◌<◌, ◌≤◌, max, Bool, true, false, cond, not, ◌||◌, eqb, ltb, ◌⊎◌, List, [], ◌∷◌, ◌++◌, filter, sym, refl, ap, ◌∙◌, subst, inl, inr, true≢false, arith}
 use mathlib.Core.List.Memᴰ
 use mathlib.Core.List.{Memᴰ}
-use Rattle.std.proofs.lemmas.Bool.{cond_both, eqb-true, leb-true, leb-false, ltb-true, ltb-false, lt-ltb, or_parts, and_parts, cases_Bool, cases_eq}
+use Rattle.std.proofs.lemmas.Bool.{eqb-true, ltb-false, lt-ltb, or_parts, cases_Bool, cases_eq}
 use Rattle.part.specs.Parts.{at_1}
 use Rattle.clock.specs.Moments.{Moment}
 use Rattle.message.specs.declared.kind.Kind.{Kind}
 use Rattle.message.specs.declared.kind.Kind.TheVariants.{Reading}
-use Rattle.message.specs.Kinds.{writes}
 use Rattle.message.specs.Format.{Msg, Ask, Loan, Write, In, Void, Recall, Back}
 use Rattle.lease.specs.declared.lease.Lease.{Lease}
-use Rattle.lease.specs.Leases.{any, running, barring, allowing, staying}
+use Rattle.lease.specs.Leases.{any, running, barring, staying}
 use Rattle.lender.specs.Rules.{at_2, recalls}
 use Rattle.borrower.specs.declared.hold.Part.{Part}
 use Rattle.world.specs.Runs.{Put}
 use Rattle.world.specs.Promise.{latest, NotIn, Once}
-use Rattle.world.proofs.Inv.{Setting, Office, State, who, place, NoLoan, Wrote, Asked, Clocked, Live, Claim, Backed, lease, Fine, Held, Inv, moved_refl, Newer, Each, each_at}
-use Rattle.world.proofs.Borrow.{moves, moving, held_more, WriteOf, at_both}
+use Rattle.world.proofs.Inv.{Setting, Office, State, who, place, NoLoan, Wrote, Clocked, Live, Claim, Backed, lease, Fine, Inv, moved_refl, Newer, Each, each_at}
+use Rattle.world.proofs.Borrow.{moves, held_more, WriteOf, at_both}
 use Rattle.world.proofs.Leases.{is_writing, kept_in, kept_was, free, Lets, at_two, at_here}
 
 not_false : (b : Bool) → not b ≡ false → b ≡ true

@@ -5,7 +5,7 @@ use mathlib.Core.List.Memᴰ
 use mathlib.Core.List.{Memᴰ}
 use Rattle.std.proofs.lemmas.Bool.{cond_both, eqb-true, leb-true, leb-false, ltb-true, ltb-false, and_parts}
 use Rattle.message.specs.declared.kind.Kind.{Kind}
-use Rattle.message.specs.Format.{Msg, Ask, Loan, Write, In, Void, Recall, Back, WellFormed, layout}
+use Rattle.message.specs.Format.{Msg, Ask, Loan, Write, In, Void, Recall, Back, WellFormed}
 use Rattle.message.specs.Reading.{read}
 use Rattle.journal.specs.declared.record.Owner.TheVariants as owner
 use Rattle.journal.specs.Records.{Rec, AllSound, bytes_of, records_of}
@@ -30,7 +30,7 @@ use Rattle.world.proofs.Keep.{keeping, quietly, only_recalls, lend_inv, put_inv,
 use Rattle.world.proofs.View.{view, office}
 use Rattle.world.proofs.Files.{Journal, Few, replay_append, puts_append, grown_records, grown_journal, torn_records, recovered_long, cut_journal}
 use Rattle.world.proofs.Wire.{more_formed, more_wire, keeper_formed}
-use Rattle.world.proofs.Good.{setting, Good, KeeperFile, on}
+use Rattle.world.proofs.Good.{setting, Good, on}
 
 -- at most one record comes of a message, and no write is sent
 ask_few : (i q l : ℕ) (a : AskAnswer) → Few (ask_records i q l a)

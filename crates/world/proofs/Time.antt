@@ -1,6 +1,6 @@
 -- Time goes on only by ticks, clocks don't go back, and the terms stay as they are.
 -- Assumes nothing.
-use Rattle.std.proofs.Common.{◌≡◌, ℕ, suc, ◌+◌, ◌-◌, ◌*◌, ◌^◌, ◌<◌, ◌≤◌, Bool, true, false, cond, ltb, leb, ◌⊎◌, List, [], ◌∷◌, Some, None, Option, sym, refl, ap, ◌∙◌, subst, inl, inr, arith}
+use Rattle.std.proofs.Common.{◌≡◌, ℕ, ◌+◌, ◌-◌, ◌^◌, ◌<◌, true, false, ltb, leb, ◌⊎◌, List, ◌∷◌, Some, None, Option, sym, refl, ap, subst, inl, inr, arith}
 use mathlib.Core.List.{Memᴰ}
 use native.Mathlib.Nat.{sub_self}
 use Rattle.std.proofs.lemmas.Bool.{cond_both}
@@ -19,8 +19,8 @@ use Rattle.lender.specs.Rules.{Book, ask_answer, after_ask, write_answer, after_
 use Rattle.lender.specs.Replies.{heard_book}
 use Rattle.borrower.specs.declared.outcome.Call.{Call}
 use Rattle.world.specs.World.{World, Node, keeper, borrower, Event, tick, call, deliver, stop, up, can_call, called, is_up, arrived, cut, stopped, risen_from, with_keeper, with_borrower, keeper_up, borrower_up, long_of, step}
-use Rattle.world.specs.Runs.{Run, moments, past_by, next, run}
-use Rattle.world.proofs.Inv.{Setting, Clocked}
+use Rattle.world.specs.Runs.{Run, moments, next}
+use Rattle.world.proofs.Inv.{Clocked}
 use Rattle.world.proofs.Good.{setting}
 
 -- the same time and the same terms

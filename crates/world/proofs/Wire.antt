@@ -1,16 +1,14 @@
 -- The network: what arrives is a message that was sent, or none; and what is sent can be read.
 -- Assumes nothing.
-use Rattle.std.proofs.Common.{◌≡◌, ℕ, zero, suc, ◌+◌, ◌^◌, ◌<◌, ◌≤◌, Bool, true, false, cond, ◌||◌, eqb, ltb, leb, ◌⊎◌, List, [], ◌∷◌, ◌++◌, map, length, get_or, take, Some, None, Ok, Err, count_by, Option, Result, sym, refl, ap, ◌∙◌, subst, inl, inr, arith}
+use Rattle.std.proofs.Common.{◌≡◌, ℕ, zero, suc, ◌+◌, ◌^◌, ◌<◌, ◌≤◌, Bool, true, false, ltb, leb, ◌⊎◌, List, [], ◌∷◌, ◌++◌, map, length, get_or, take, Some, Ok, Err, count_by, Result, sym, refl, ap, ◌∙◌, subst, inl, inr, arith}
 use mathlib.Core.List.Memᴰ
 use mathlib.Core.List.{Memᴰ}
-use Rattle.std.specs.List.{range_with_len}
 use Rattle.std.proofs.lemmas.List.{take_all, map-append}
 use Rattle.std.proofs.lemmas.List.FromFn.{length-map-range_with_len}
-use Rattle.std.proofs.lemmas.Bool.{cond_both, cases_lt, eqb-true, leb-false, or_parts}
+use Rattle.std.proofs.lemmas.Bool.{cond_both, cases_lt}
 use Rattle.part.specs.Bytes.{Named}
 use Rattle.message.specs.declared.kind.Kind.{Kind}
 use Rattle.message.specs.declared.refusal.Refusal.{Refusal}
-use Rattle.message.specs.declared.refusal.Refusal.TheVariants.{HoldsCopy, Exhausted}
 use Rattle.message.specs.Format.{Msg, Ask, Loan, Write, In, Void, Recall, Back, WellFormed, layout}
 use Rattle.message.specs.Reading.{read}
 use Rattle.message.proofs.Reading.{read_layout, read_some}
@@ -29,7 +27,6 @@ use Rattle.borrower.specs.declared.hold.OnFile.{OnFile}
 use Rattle.borrower.specs.declared.hold.Asked.{Asked}
 use Rattle.borrower.specs.declared.outcome.Call.{Call}
 use Rattle.borrower.specs.declared.outcome.Call.TheVariants as call
-use Rattle.borrower.specs.Steps.{rounded}
 use Rattle.borrower.specs.Outcomes.{call_effect}
 use Rattle.borrower.specs.Outcomes.{ask_sends as ask_sent, write_sends as write_sent}
 use Rattle.borrower.specs.Used.{Near, AllUsed}

@@ -1,6 +1,6 @@
 -- Runs: events one after another from empty journals on, with what nobody has: all earlier moments, and the writes that were applied.
 -- Assumes nothing.
-use Rattle.std.specs.Prelude.{◌≡◌, ℕ, Bool, cond, List, [], ◌∷◌, length, Some, None, Option, nat_le}
+use Rattle.std.specs.Prelude.{◌≡◌, ℕ, cond, List, [], ◌∷◌, length, Some, None, Option, nat_le}
 use Rattle.clock.specs.Moments.{Moment}
 use Rattle.journal.specs.Records.{Rec, Applied, VoidUpTo, Numbers, bytes_of}
 use Rattle.world.specs.World.{World, Event, tick, call, deliver, stop, up, keeper, borrower, keeper_effect, cut, step, first_world}

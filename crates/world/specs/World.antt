@@ -1,7 +1,7 @@
 -- The world: the present moment, the keeper, the borrowers and the bytes of every message ever sent, and what each event makes of it.
 -- It is made of the rules that the contracts of `lender`, `borrower`, `message` and `journal` cite.
 -- Assumes nothing.
-use Rattle.std.specs.Prelude.{ℕ, suc, ◌+◌, ◌^◌, Bool, true, false, cond, ◌&&◌, List, [], ◌∷◌, ◌++◌, map, length, take, Some, None, Option, ◌==◌, nat_le, nat_lt, slice_index_or}
+use Rattle.std.specs.Prelude.{ℕ, suc, ◌+◌, ◌^◌, Bool, true, false, cond, ◌&&◌, List, [], ◌++◌, map, length, take, Some, None, Option, ◌==◌, nat_le, nat_lt, slice_index_or}
 use Rattle.part.specs.Parts.{at_1, blank}
 use Rattle.clock.specs.Moments.{Moment, Passing, after}
 use Rattle.message.specs.Format.{Msg, layout}
