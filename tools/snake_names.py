@@ -1,5 +1,5 @@
 #!/usr/bin/env python3
-"""Respells the repository's own names of definitions, lemmas, fields and constructors: snake case in place of dashes.
+"""Respells the repository's own names: definitions, lemmas, fields and constructors in snake case, types in upper camel case.
 
 Run once, at the top, after the kit's port.py. A name is respelled where it is declared in specs/ or proofs/ of some
 crate; names of the standard library, and names that the checker makes, keep their dashes. In .rt files only clauses,
@@ -31,7 +31,16 @@ OTHERWISE = {"put-mid": "put_mid_is"}
 
 
 def respell(name):
-    return OTHERWISE.get(name, name.replace("-", "_"))
+    """The name in today's spelling: SetTo for Set-to, reading_at for reading-at and for readingAt."""
+    if name in OTHERWISE:
+        return OTHERWISE[name]
+    if name[0].isupper():
+        return "".join(part[:1].upper() + part[1:] for part in re.split("[-_]", name))
+    return re.sub(r"(?<=[a-z0-9])[A-Z]", lambda found: "_" + found.group(0).lower(), name.replace("-", "_"))
+
+
+def is_older(name):
+    return respell(name) != name
 
 
 def files(top, ending):
@@ -44,7 +53,7 @@ def code(line):
 
 
 def declared(top):
-    """Every dashed name that some .antt file declares, and which of them are fields of records."""
+    """Every name in the older spelling that some .antt file declares, and which of them are fields of records."""
     names, fields = set(), set()
     for path in files(top, ".antt"):
         if path.name in ANSWERS and "proofs" in path.parts:
@@ -53,13 +62,13 @@ def declared(top):
             line = code(line)
             for pattern in (DECLARES, RECORD, LET):
                 found = pattern.match(line) if pattern is not LET else pattern.search(line)
-                if found and "-" in found.group(1):
+                if found and is_older(found.group(1)):
                     names.add(found.group(1))
             for binder in BINDER.findall(line):
-                names.update(word for word in binder.split() if "-" in word)
-            names.update(word for word in ALIAS.findall(line) if "-" in word)
+                names.update(word for word in binder.split() if is_older(word))
+            names.update(word for word in ALIAS.findall(line) if is_older(word))
             found = FIELD.match(line)
-            if found and "-" in found.group(1):
+            if found and is_older(found.group(1)):
                 names.add(found.group(1))
                 fields.add(found.group(1))
     return names, fields

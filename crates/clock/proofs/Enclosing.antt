@@ -5,7 +5,7 @@ use Rattle.std.proofs.lemmas.Bool.{cond_both, leb-true, leb-false, le-leb, and_p
 use Rattle.clock.specs.Moments.{million, Keeps}
 use Rattle.clock.specs.declared.envelope.Envelope.{Envelope}
 use Rattle.clock.specs.declared.envelope.Point.{Point}
-use Rattle.clock.specs.Envelopes.{aheadBy, behindBy, firstOne, admitsOne, extendOne, Encloses, KeepsSince, Exact, Extends}
+use Rattle.clock.specs.Envelopes.{ahead_by, behind_by, first_one, admits_one, extend_one, Encloses, KeepsSince, Exact, Extends}
 
 -- the bounds of the error by sums, where d and s have passed since t and c
 slow_iff : (e g d s t c : ℕ) → (d * e ≤ (s + 1) * g) ↔ ((t + d) * e + c * g ≤ t * e + (c + s) * g + g)
@@ -17,7 +17,7 @@ fast_iff f g d s t c = ((λ h. omega arith), (λ h. omega arith))
 module _ (rate grain : ℕ) where
   -- within the error from q to p, by the two tests
   abbrev Both : (p q : Point) → Type 0
-  Both p q = (aheadBy rate grain (million * grain) p q ≡ true) × (behindBy rate grain (million * grain) p q ≡ true)
+  Both p q = (ahead_by rate grain (million * grain) p q ≡ true) × (behind_by rate grain (million * grain) p q ≡ true)
 
   -- time and shown are how far the clock has gone on since q
   keeps_since : (q : Point) (time shown : ℕ) → Keeps rate grain time shown ↔ Both (record { time = q.time + time; shown = q.shown + shown }) q
@@ -38,38 +38,38 @@ module _ (rate grain : ℕ) where
   through : (a b c d e f u : ℕ) → a + d ≤ c + b + u → c + f ≤ e + d + 0 → a + f ≤ e + b + u
   through a b c d e f u h k = omega arith
 
-  ahead_through : (slack : ℕ) (p q r : Point) → aheadBy rate grain slack p q ≡ true → aheadBy rate grain 0 q r ≡ true → aheadBy rate grain slack p r ≡ true
+  ahead_through : (slack : ℕ) (p q r : Point) → ahead_by rate grain slack p q ≡ true → ahead_by rate grain 0 q r ≡ true → ahead_by rate grain slack p r ≡ true
   ahead_through slack p q r h k =
       le-leb _ _
       (through (p.time * (million - rate)) (p.shown * (million * grain)) (q.time * (million - rate)) (q.shown * (million * grain)) (r.time * (million - rate)) (r.shown * (million * grain))
       slack (leb-true _ _ h) (leb-true _ _ k))
 
-  behind_through : (slack : ℕ) (p q r : Point) → behindBy rate grain slack p q ≡ true → behindBy rate grain 0 q r ≡ true → behindBy rate grain slack p r ≡ true
+  behind_through : (slack : ℕ) (p q r : Point) → behind_by rate grain slack p q ≡ true → behind_by rate grain 0 q r ≡ true → behind_by rate grain slack p r ≡ true
   behind_through slack p q r h k =
       le-leb _ _
       (through (p.shown * (million * grain)) (p.time * (million + rate)) (q.shown * (million * grain)) (q.time * (million + rate)) (r.shown * (million * grain)) (r.time * (million + rate))
       slack (leb-true _ _ h) (leb-true _ _ k))
 
-  pub exact : (e : Envelope) (p : Point) → Exact rate grain e p (admitsOne rate grain e p)
+  pub exact : (e : Envelope) (p : Point) → Exact rate grain e p (admits_one rate grain e p)
   exact e p past of later = (to, from)
     where
       both : (q : Point) → Memᴰ q past → Keeps rate grain (p.time - q.time) (p.shown - q.shown) ↔ Both p q
       both q m = keeps_iff p q (later q m).0 (later q m).1
 
-      to : admitsOne rate grain e p ≡ true → KeepsSince rate grain past p
+      to : admits_one rate grain e p ≡ true → KeepsSince rate grain past p
       to h q m =
           let a = and_parts _ _ h in
           (both q m).1 (ahead_through (million * grain) p e.ahead q a.0 (of.ahead q m), behind_through (million * grain) p e.behind q a.1 (of.behind q m))
 
-      from : KeepsSince rate grain past p → admitsOne rate grain e p ≡ true
+      from : KeepsSince rate grain past p → admits_one rate grain e p ≡ true
       from h =
-          and_from _ _ ((both e.ahead of.aheadAt).0 (h e.ahead of.aheadAt)).0
-          ((both e.behind of.behindAt).0 (h e.behind of.behindAt)).1
+          and_from _ _ ((both e.ahead of.ahead_at).0 (h e.ahead of.ahead_at)).0
+          ((both e.behind of.behind_at).0 (h e.behind of.behind_at)).1
 
-  ahead_same : (p : Point) → aheadBy rate grain 0 p p ≡ true
+  ahead_same : (p : Point) → ahead_by rate grain 0 p p ≡ true
   ahead_same p = le-leb _ _ (omega arith)
 
-  behind_same : (p : Point) → behindBy rate grain 0 p p ≡ true
+  behind_same : (p : Point) → behind_by rate grain 0 p p ≡ true
   behind_same p = le-leb _ _ (omega arith)
 
   -- what holds of the newest and of all earlier ones holds of all
@@ -77,33 +77,33 @@ module _ (rate grain : ℕ) where
   of_all P p past h k q (Memᴰ.head e) = subst P (sym e) h
   of_all P p past h k q (Memᴰ.tail m) = k q m
 
-  pub first : (p : Point) → Encloses rate grain (p ∷ []) (firstOne p)
+  pub first : (p : Point) → Encloses rate grain (p ∷ []) (first_one p)
   first p =
       record {
-        aheadAt = Memᴰ.head refl;
-        behindAt = Memᴰ.head refl;
-        ahead = of_all (λ q. aheadBy rate grain 0 p q ≡ true) p [] (ahead_same p) (λ q m. elim m [ ]);
-        behind = of_all (λ q. behindBy rate grain 0 p q ≡ true) p [] (behind_same p) (λ q m. elim m [ ]);
+        ahead_at = Memᴰ.head refl;
+        behind_at = Memᴰ.head refl;
+        ahead = of_all (λ q. ahead_by rate grain 0 p q ≡ true) p [] (ahead_same p) (λ q m. elim m [ ]);
+        behind = of_all (λ q. behind_by rate grain 0 p q ≡ true) p [] (behind_same p) (λ q m. elim m [ ]);
       }
 
-  pub extends : (e : Envelope) (p : Point) → Extends rate grain e p (extendOne rate grain e p)
+  pub extends : (e : Envelope) (p : Point) → Extends rate grain e p (extend_one rate grain e p)
   extends e p past of =
       record {
-        aheadAt = cond_both _ p e.ahead (λ x. Memᴰ x (p ∷ past)) (λ t. Memᴰ.head refl) (λ t. Memᴰ.tail of.aheadAt);
-        behindAt = cond_both _ p e.behind (λ x. Memᴰ x (p ∷ past)) (λ t. Memᴰ.head refl) (λ t. Memᴰ.tail of.behindAt);
+        ahead_at = cond_both _ p e.ahead (λ x. Memᴰ x (p ∷ past)) (λ t. Memᴰ.head refl) (λ t. Memᴰ.tail of.ahead_at);
+        behind_at = cond_both _ p e.behind (λ x. Memᴰ x (p ∷ past)) (λ t. Memᴰ.head refl) (λ t. Memᴰ.tail of.behind_at);
         ahead =
-            cond_both _ p e.ahead (λ x. (q : Point) → Memᴰ q (p ∷ past) → aheadBy rate grain 0 x q ≡ true)
-            (λ t. of_all (λ q. aheadBy rate grain 0 p q ≡ true) p past (ahead_same p) (λ q m. ahead_through 0 p e.ahead q t (of.ahead q m)))
-            (λ t. of_all (λ q. aheadBy rate grain 0 e.ahead q ≡ true) p past (le-leb _ _ (omega (arith, leb-false _ _ t))) of.ahead);
+            cond_both _ p e.ahead (λ x. (q : Point) → Memᴰ q (p ∷ past) → ahead_by rate grain 0 x q ≡ true)
+            (λ t. of_all (λ q. ahead_by rate grain 0 p q ≡ true) p past (ahead_same p) (λ q m. ahead_through 0 p e.ahead q t (of.ahead q m)))
+            (λ t. of_all (λ q. ahead_by rate grain 0 e.ahead q ≡ true) p past (le-leb _ _ (omega (arith, leb-false _ _ t))) of.ahead);
         behind =
-            cond_both _ p e.behind (λ x. (q : Point) → Memᴰ q (p ∷ past) → behindBy rate grain 0 x q ≡ true)
-            (λ t. of_all (λ q. behindBy rate grain 0 p q ≡ true) p past (behind_same p) (λ q m. behind_through 0 p e.behind q t (of.behind q m)))
-            (λ t. of_all (λ q. behindBy rate grain 0 e.behind q ≡ true) p past (le-leb _ _ (omega (arith, leb-false _ _ t))) of.behind);
+            cond_both _ p e.behind (λ x. (q : Point) → Memᴰ q (p ∷ past) → behind_by rate grain 0 x q ≡ true)
+            (λ t. of_all (λ q. behind_by rate grain 0 p q ≡ true) p past (behind_same p) (λ q m. behind_through 0 p e.behind q t (of.behind q m)))
+            (λ t. of_all (λ q. behind_by rate grain 0 e.behind q ≡ true) p past (le-leb _ _ (omega (arith, leb-false _ _ t))) of.behind);
       }
 
   -- the same of a value that is known to be the definition's
-  pub exact_of : (e : Envelope) (p : Point) (r : Bool) → r ≡ admitsOne rate grain e p → Exact rate grain e p r
+  pub exact_of : (e : Envelope) (p : Point) (r : Bool) → r ≡ admits_one rate grain e p → Exact rate grain e p r
   exact_of e p r is = subst (Exact rate grain e p) (sym is) (exact e p)
 
-  pub extends_of : (e : Envelope) (p : Point) (r : Envelope) → r ≡ extendOne rate grain e p → Extends rate grain e p r
+  pub extends_of : (e : Envelope) (p : Point) (r : Envelope) → r ≡ extend_one rate grain e p → Extends rate grain e p r
   extends_of e p r is = subst (Extends rate grain e p) (sym is) (extends e p)

@@ -2,7 +2,7 @@
 use Rattle.std.proofs.Common.{ℕ, zero, suc, ◌+◌, ◌-◌, ◌*◌, ◌<◌, ◌≤◌, ⊎_elim, mul-le-mul_right, arith}
 use Rattle.std.proofs.lemmas.Bool.{cases_lt}
 use Rattle.clock.specs.Moments.{million}
-use Rattle.clock.specs.Terms.{Terms_safe, shortReach, longReach}
+use Rattle.clock.specs.Terms.{TermsSafe, short_reach, long_reach}
 
 -- e and f are a million less and plus the rate, g a millisecond in millionths of a unit
 crossed : (e f g time x y short long : ℕ) → 0 < g → time * e ≤ (x + 1) * g → x < short → y * g ≤ time * f + g → short * f < long * e → long < y → ⊥
@@ -18,11 +18,11 @@ not_above : (a b : ℕ) → (b ≤ a → ⊥) → a < b
 not_above a b h = ⊎_elim (λ l. l) (λ l. absurd (h l)) (cases_lt a b)
 
 -- terms that fit have a long of at least one, so that one less than it is reached too
-one_less : (rate short long y : ℕ) → shortReach rate short ≤ longReach rate long → long ≤ y → long - 1 < y
+one_less : (rate short long y : ℕ) → short_reach rate short ≤ long_reach rate long → long ≤ y → long - 1 < y
 one_less rate short zero y apart h = absurd (omega arith)
 one_less rate short (suc long) y apart h = omega arith
 
-pub terms_safe : Terms_safe
+pub terms_safe : TermsSafe
 terms_safe rate grain short long o n pos fits later between i runs =
     not_above _ _
     (λ over.

@@ -5,9 +5,9 @@ use mathlib.Core.List.{Memᴰ}
 use Rattle.std.proofs.lemmas.List.{get_or_default, get_or_past}
 use Rattle.std.proofs.lemmas.Bool.{both_ways, cases_lt}
 use Rattle.clock.specs.Moments.{Moment, Passing, after, Keeps, Pairs, Within, Later}
-use Rattle.clock.specs.Envelopes.{Encloses, NoneLater, admitsOne, extendOne, firstOne}
-use Rattle.clock.specs.Loops.{none, nextPoint, Judged, AllExtended, Sums, Overflows}
-use Rattle.clock.specs.Clocks.{shows, moment, passing, present, readingAt, readings, Five, Stands, Passed, Refused}
+use Rattle.clock.specs.Envelopes.{Encloses, NoneLater, admits_one, extend_one, first_one}
+use Rattle.clock.specs.Loops.{none, next_point, Judged, AllExtended, Sums, Overflows}
+use Rattle.clock.specs.Clocks.{shows, moment, passing, present, reading_at, readings, Five, Stands, Passed, Refused}
 use Rattle.clock.specs.declared.clocks.Clocks.{Clocks}
 use Rattle.clock.specs.declared.envelope.Envelope.{Envelope}
 use Rattle.clock.specs.declared.envelope.Point.{Point}
@@ -25,7 +25,7 @@ shows_past hands j h = get_or_past hands j (get_or hands 0 0) h
 five_in : (time : ℕ) (hands : List ℕ) → length hands ≡ 5 → Five (moment time hands)
 five_in time hands l j h = shows_past hands j (omega arith) ∙ sym (shows_in hands 0 (omega arith))
 
-next_is : (time : ℕ) (hands : List ℕ) (j : ℕ) → j < length hands → nextPoint time hands j ≡ readingAt j (moment time hands)
+next_is : (time : ℕ) (hands : List ℕ) (j : ℕ) → j < length hands → next_point time hands j ≡ reading_at j (moment time hands)
 next_is time hands j h = ap (λ (x : ℕ). record { time = time; shown = x }) (sym (shows_in hands j h))
 
 moment_after : (time t : ℕ) (hands by next : List ℕ) → length hands ≡ 5 → length by ≡ 5 → length next ≡ 5 → Sums hands by next → moment (time + t) next ≡ after (moment time hands) (passing t by)
@@ -59,20 +59,20 @@ module _ (s : Clocks) (past : List Moment) (st : Stands s past) (n : Moment) (fi
   Keeping j = (m : Moment) → Memᴰ m (present s ∷ past) → Keeps s.terms.rate 1 (n.true - m.true) (n.hand j - m.hand j)
 
   abbrev Admitted : ℕ → Bool → Type 0
-  Admitted j b = admitsOne s.terms.rate 1 (get_or s.envelopes j none) (readingAt j n) ≡ b
+  Admitted j b = admits_one s.terms.rate 1 (get_or s.envelopes j none) (reading_at j n) ≡ b
 
   one_exact : (j : ℕ) → j < 5 → Admitted j true ↔ Keeping j
   one_exact j h =
-      let x = exact s.terms.rate 1 (get_or s.envelopes j none) (readingAt j n) (readings j (present s ∷ past)) (st.encloses j h) none_later in
-      ((λ t m z. x.0 t (readingAt j m) (Memᴰ.map (readingAt j) z)), (λ k. x.1 (λ q z. keeps k q (Memᴰ.of_map (readingAt j) (present s ∷ past) z))))
+      let x = exact s.terms.rate 1 (get_or s.envelopes j none) (reading_at j n) (readings j (present s ∷ past)) (st.encloses j h) none_later in
+      ((λ t m z. x.0 t (reading_at j m) (Memᴰ.map (reading_at j) z)), (λ k. x.1 (λ q z. keeps k q (Memᴰ.of_map (reading_at j) (present s ∷ past) z))))
     where
-      no_later : (q : Point) → ((m : Moment) × Memᴰ m (present s ∷ past) × (readingAt j m ≡ q)) → (q.time ≤ n.true) × (q.shown ≤ n.hand j)
+      no_later : (q : Point) → ((m : Moment) × Memᴰ m (present s ∷ past) × (reading_at j m ≡ q)) → (q.time ≤ n.true) × (q.shown ≤ n.hand j)
       no_later q (m, z, e) = subst (λ (x : Point). (x.time ≤ n.true) × (x.shown ≤ n.hand j)) e ((later_next m z).true, (later_next m z).hand j)
 
-      none_later : NoneLater (readings j (present s ∷ past)) (readingAt j n)
-      none_later q z = no_later q (Memᴰ.of_map (readingAt j) (present s ∷ past) z)
+      none_later : NoneLater (readings j (present s ∷ past)) (reading_at j n)
+      none_later q z = no_later q (Memᴰ.of_map (reading_at j) (present s ∷ past) z)
 
-      keeps : Keeping j → (q : Point) → ((m : Moment) × Memᴰ m (present s ∷ past) × (readingAt j m ≡ q)) → Keeps s.terms.rate 1 (n.true - q.time) (n.hand j - q.shown)
+      keeps : Keeping j → (q : Point) → ((m : Moment) × Memᴰ m (present s ∷ past) × (reading_at j m ≡ q)) → Keeps s.terms.rate 1 (n.true - q.time) (n.hand j - q.shown)
       keeps k q (m, z, e) = subst (λ (x : Point). Keeps s.terms.rate 1 (n.true - x.time) (n.hand j - x.shown)) e (k m z)
 
   within_next : ((j : ℕ) → j < 5 → Admitted j true) → Within s.terms.rate 1 (n ∷ present s ∷ past)
@@ -99,7 +99,7 @@ module _ (s : Clocks) (t : ℕ) (by hands : List ℕ) (a : length s.hands ≡ 5)
   next_five : Five next
   next_five = five_in (s.time + t) hands c
 
-  next_reading : (j : ℕ) → j < 5 → nextPoint (s.time + t) hands j ≡ readingAt j next
+  next_reading : (j : ℕ) → j < 5 → next_point (s.time + t) hands j ≡ reading_at j next
   next_reading j h = next_is (s.time + t) hands j (omega arith)
 
   fives : (past : List Moment) → Stands s past → (m : Moment) → Memᴰ m (next ∷ present s ∷ past) → Five m
@@ -107,7 +107,7 @@ module _ (s : Clocks) (t : ℕ) (by hands : List ℕ) (a : length s.hands ≡ 5)
   fives past st m (Memᴰ.tail z) = st.five m z
 
   abbrev Judges : ℕ → Bool → Point → Type 0
-  Judges j r q = admitsOne s.terms.rate 1 (get_or s.envelopes j none) q ≡ r
+  Judges j r q = admits_one s.terms.rate 1 (get_or s.envelopes j none) q ≡ r
 
   pub passed : (es : List Envelope) → Judged s.terms.rate s.envelopes (s.time + t) hands true → AllExtended s.terms.rate s.envelopes (s.time + t) hands es →
       Passed t by s (record { time = s.time + t; hands = hands; envelopes = es; terms = s.terms })
@@ -118,15 +118,15 @@ module _ (s : Clocks) (t : ℕ) (by hands : List ℕ) (a : length s.hands ≡ 5)
         terms = refl;
         stands = λ past st.
             record {
-              encloses = λ j h. subst (Encloses s.terms.rate 1 (readings j (next ∷ present s ∷ past))) (sym (grown j h)) (extends s.terms.rate 1 (get_or s.envelopes j none) (readingAt j next) (readings j (present s ∷ past)) (st.encloses j h));
+              encloses = λ j h. subst (Encloses s.terms.rate 1 (readings j (next ∷ present s ∷ past))) (sym (grown j h)) (extends s.terms.rate 1 (get_or s.envelopes j none) (reading_at j next) (readings j (present s ∷ past)) (st.encloses j h));
               five = fives past st;
               later = (later_next s past st next next_five (passing t by) next_after, st.later);
               within = within_next s past st next next_five (passing t by) next_after (λ j h. subst (Judges j true) (next_reading j h) (admitted j h));
             };
       }
     where
-      grown : (j : ℕ) → j < 5 → get_or es j none ≡ extendOne s.terms.rate 1 (get_or s.envelopes j none) (readingAt j next)
-      grown j h = extended j h ∙ ap (λ (q : Point). extendOne s.terms.rate 1 (get_or s.envelopes j none) q) (next_reading j h)
+      grown : (j : ℕ) → j < 5 → get_or es j none ≡ extend_one s.terms.rate 1 (get_or s.envelopes j none) (reading_at j next)
+      grown j h = extended j h ∙ ap (λ (q : Point). extend_one s.terms.rate 1 (get_or s.envelopes j none) q) (next_reading j h)
 
   pub refused : Judged s.terms.rate s.envelopes (s.time + t) hands false → Refused t by s s
   refused (j, h, out) =
@@ -141,12 +141,12 @@ pub no_room : (s : Clocks) (t : ℕ) (by : List ℕ) → length s.hands ≡ 5 �
 no_room s t by a b (j, h, over) =
     record { same = refl; rightly = λ room past st w. omega (arith, room.hand j, shows_in s.hands j (omega arith), shows_in by j (omega arith)) }
 
-pub begins : (terms : Terms) (hands : List ℕ) (es : List Envelope) → length hands ≡ 5 → ((j : ℕ) → j < 5 → get_or es j none ≡ firstOne (nextPoint 0 hands j)) →
+pub begins : (terms : Terms) (hands : List ℕ) (es : List Envelope) → length hands ≡ 5 → ((j : ℕ) → j < 5 → get_or es j none ≡ first_one (next_point 0 hands j)) →
     Stands (record { time = 0; hands = hands; envelopes = es; terms = terms }) []
 unfolding Pairs
 begins terms hands es l firsts =
     record {
-      encloses = λ j h. subst (Encloses terms.rate 1 (readings j (moment 0 hands ∷ []))) (sym (firsts j h ∙ ap firstOne (next_is 0 hands j (omega arith)))) (first terms.rate 1 (readingAt j (moment 0 hands)));
+      encloses = λ j h. subst (Encloses terms.rate 1 (readings j (moment 0 hands ∷ []))) (sym (firsts j h ∙ ap first_one (next_is 0 hands j (omega arith)))) (first terms.rate 1 (reading_at j (moment 0 hands)));
       five = only;
       later = ((λ o z. elim z [ ]), tt);
       within = ((λ o z. elim z [ ]), tt);

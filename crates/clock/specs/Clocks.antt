@@ -23,11 +23,11 @@ abbrev pub present : Clocks → Moment
 present s = moment s.time s.hands
 
 -- the readings of clock j at some moments
-abbrev pub readingAt : ℕ → Moment → Point
-readingAt j m = record { time = m.true; shown = m.hand j }
+abbrev pub reading_at : ℕ → Moment → Point
+reading_at j m = record { time = m.true; shown = m.hand j }
 
 abbrev pub readings : ℕ → List Moment → List Point
-readings j ms = map (readingAt j) ms
+readings j ms = map (reading_at j) ms
 
 -- from the fifth on, clocks show what the keeper's does
 abbrev pub Five : Moment → Type 0

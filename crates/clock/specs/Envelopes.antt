@@ -6,32 +6,32 @@ use Rattle.clock.specs.declared.envelope.Envelope.{Envelope}
 use Rattle.clock.specs.declared.envelope.Point.{Point}
 
 -- at p the clock is as far ahead of the slowest that it may run as at q, or less so by at most the slack
-abbrev pub aheadBy : (rate grain slack : ℕ) (p q : Point) → Bool
-aheadBy rate grain slack p q =
+abbrev pub ahead_by : (rate grain slack : ℕ) (p q : Point) → Bool
+ahead_by rate grain slack p q =
     nat_le (p.time * (million - rate) + q.shown * (million * grain)) (q.time * (million - rate) + p.shown * (million * grain) + slack)
 
 -- at p the clock is as far behind the fastest that it may run as at q, or less so by at most the slack
-abbrev pub behindBy : (rate grain slack : ℕ) (p q : Point) → Bool
-behindBy rate grain slack p q =
+abbrev pub behind_by : (rate grain slack : ℕ) (p q : Point) → Bool
+behind_by rate grain slack p q =
     nat_le (p.shown * (million * grain) + q.time * (million + rate)) (q.shown * (million * grain) + p.time * (million + rate) + slack)
 
 -- the envelope of one reading, whether it admits a next one, and the envelope with that one too
-abbrev pub firstOne : Point → Envelope
-firstOne p = record { ahead = p; behind = p }
+abbrev pub first_one : Point → Envelope
+first_one p = record { ahead = p; behind = p }
 
-abbrev pub admitsOne : (rate grain : ℕ) → Envelope → Point → Bool
-admitsOne rate grain e p = aheadBy rate grain (million * grain) p e.ahead && behindBy rate grain (million * grain) p e.behind
+abbrev pub admits_one : (rate grain : ℕ) → Envelope → Point → Bool
+admits_one rate grain e p = ahead_by rate grain (million * grain) p e.ahead && behind_by rate grain (million * grain) p e.behind
 
-abbrev pub extendOne : (rate grain : ℕ) → Envelope → Point → Envelope
-extendOne rate grain e p =
-    record { ahead = cond (aheadBy rate grain 0 p e.ahead) p e.ahead; behind = cond (behindBy rate grain 0 p e.behind) p e.behind }
+abbrev pub extend_one : (rate grain : ℕ) → Envelope → Point → Envelope
+extend_one rate grain e p =
+    record { ahead = cond (ahead_by rate grain 0 p e.ahead) p e.ahead; behind = cond (behind_by rate grain 0 p e.behind) p e.behind }
 
 -- an envelope stands for readings of a clock: its two are among them, and none is further ahead or further behind
 pub record Encloses (rate grain : ℕ) (past : List Point) (e : Envelope) : Type 0 where
-  pub aheadAt : Memᴰ e.ahead past
-  pub behindAt : Memᴰ e.behind past
-  pub ahead : (q : Point) → Memᴰ q past → aheadBy rate grain 0 e.ahead q ≡ true
-  pub behind : (q : Point) → Memᴰ q past → behindBy rate grain 0 e.behind q ≡ true
+  pub ahead_at : Memᴰ e.ahead past
+  pub behind_at : Memᴰ e.behind past
+  pub ahead : (q : Point) → Memᴰ q past → ahead_by rate grain 0 e.ahead q ≡ true
+  pub behind : (q : Point) → Memᴰ q past → behind_by rate grain 0 e.behind q ≡ true
 
 -- no reading of the past is later than p, by the true time or by the clock
 abbrev pub NoneLater : List Point → Point → Type 0

@@ -1,6 +1,6 @@
 // Whether a clock keeps within its error against all its earlier readings, by two of them.
 ghost use Rattle.std.specs.Prelude.{◌≡◌, ℕ, ◌*◌, ◌^◌, ◌<◌, [], ◌∷◌};
-ghost use Rattle.clock.specs.Envelopes.{Encloses, Exact, Extends, admitsOne, aheadBy, behindBy, extendOne, firstOne};
+ghost use Rattle.clock.specs.Envelopes.{Encloses, Exact, Extends, admits_one, ahead_by, behind_by, extend_one, first_one};
 
 use crate::terms::Terms;
 
@@ -21,7 +21,7 @@ pub struct Envelope {
 impl Envelope {
     /// The envelope of a first reading.
     pub fn first(p: Point) -> Envelope
-        ensures is { result ≡ firstOne p }
+        ensures is { result ≡ first_one p }
         ensures encloses { (rate grain : ℕ) → Encloses rate grain (p ∷ []) result }
     {
         Envelope {
@@ -32,7 +32,7 @@ impl Envelope {
 
     /// Whether a clock that shows this next has kept within its error since every earlier reading.
     pub fn admits(&self, terms: &Terms, p: Point) -> bool
-        ensures is { result ≡ admitsOne terms.now.rate 1 self.now p }
+        ensures is { result ≡ admits_one terms.now.rate 1 self.now p }
         ensures exact { Exact terms.now.rate 1 self.now p result }
     {
         ahead_by(terms, 1_000_000, p, self.ahead) && behind_by(terms, 1_000_000, p, self.behind)
@@ -40,7 +40,7 @@ impl Envelope {
 
     /// The envelope with one reading more.
     pub fn extend(&self, terms: &Terms, p: Point) -> Envelope
-        ensures is { result ≡ extendOne terms.now.rate 1 self.now p }
+        ensures is { result ≡ extend_one terms.now.rate 1 self.now p }
         ensures extends { Extends terms.now.rate 1 self.now p result }
     {
         Envelope {
@@ -61,7 +61,7 @@ impl Envelope {
 /// Whether the clock is as far ahead at `p` as at `q`, or less so by at most the slack, in millionths of a millisecond.
 /// Both sides are sums, so that nothing goes below zero.
 fn ahead_by(terms: &Terms, slack: u64, p: Point, q: Point) -> bool
-    ensures { result ≡ aheadBy terms.now.rate 1 slack p q }
+    ensures { result ≡ ahead_by terms.now.rate 1 slack p q }
 {
     let slowest = 1_000_000 - terms.rate;
     times(p.time, slowest) + times(q.shown, 1_000_000)
@@ -70,7 +70,7 @@ fn ahead_by(terms: &Terms, slack: u64, p: Point, q: Point) -> bool
 
 /// The same of how far it is behind.
 fn behind_by(terms: &Terms, slack: u64, p: Point, q: Point) -> bool
-    ensures { result ≡ behindBy terms.now.rate 1 slack p q }
+    ensures { result ≡ behind_by terms.now.rate 1 slack p q }
 {
     let fastest = 1_000_000 + terms.rate;
     times(p.shown, 1_000_000) + times(q.time, fastest)

@@ -1,6 +1,6 @@
 // The terms of leases, made only where they fit together.
 ghost use Rattle.std.specs.Prelude.{◌≡◌, ◌≤◌, true, is_ok, IfOk, Some, None, MatchResult, nat_le};
-ghost use Rattle.clock.specs.Terms.{Fits, Terms_safe, longReach, shortReach, verdict};
+ghost use Rattle.clock.specs.Terms.{Fits, TermsSafe, long_reach, short_reach, verdict};
 
 /// How far off clocks may run, in parts of a million, and how many milliseconds a lease runs for the borrower and for the keeper.
 #[derive(Clone, Copy)]
@@ -46,7 +46,7 @@ impl Terms {
 /// Whether the borrower's lease ends before the keeper's, for any clocks within the error.
 fn apart(rate: u64, short: u64, long: u64) -> bool
     requires { rate ≤ 10000 }
-    ensures { result ≡ nat_le (shortReach rate short) (longReach rate long) }
+    ensures { result ≡ nat_le (short_reach rate short) (long_reach rate long) }
 {
     let rate = rate as u128;
     let short_reach = (short as u128 + 1) * (1_000_000 + rate) + 2_000_000;
@@ -56,7 +56,7 @@ fn apart(rate: u64, short: u64, long: u64) -> bool
 
 /// Names the theorem that terms that fit are safe: while a lease runs for a borrower it runs for the keeper.
 pub fn terms_are_safe() -> u8
-    ensures { Terms_safe }
+    ensures { TermsSafe }
 {
     0
 }

@@ -29,8 +29,8 @@ abbrev pub no : Said
 no = Refused Malformed
 
 -- the first line says what the clocks show
-abbrev pub Set_to : (was is : Rehearsal) (keeper : ℕ) (borrowers : List ℕ) → Said → Type 0
-Set_to was is k bs said =
+abbrev pub SetTo : (was is : Rehearsal) (keeper : ℕ) (borrowers : List ℕ) → Said → Type 0
+SetTo was is k bs said =
     MatchBool was.begun ((is ≡ was) × (said ≡ no))
     (Showing was.clocks.terms (k ∷ slice_index bs 0 ∷ slice_index bs 1 ∷ slice_index bs 2 ∷ slice_index bs 3 ∷ []) is.clocks × (is.begun ≡ true) × (said ≡ Done))
 
@@ -45,7 +45,7 @@ Later was is said = (is.clocks ≡ was.clocks) × (is.begun ≡ true) × (said �
 abbrev pub Played : (was is : Rehearsal) → Option (Step Place) → Said → Type 0
 Played was is None said = (is ≡ was) × (said ≡ no)
 Played was is (Some Blank) said = (is ≡ was) × (said ≡ Nothing)
-Played was is (Some (Set k bs)) said = Set_to was is k bs said
+Played was is (Some (Set k bs)) said = SetTo was is k bs said
 Played was is (Some step.Anew) said = Started was.clocks.terms is × (said ≡ Anew)
 Played was is (Some (Tick t by)) said = Ticked was is t by said
 Played was is (Some (Up w)) said = Later was is said

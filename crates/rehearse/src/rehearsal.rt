@@ -1,6 +1,6 @@
 ghost use Rattle.std.specs.Prelude.{◌≡◌, suc, ◌<◌};
 ghost use Rattle.clock.specs.Clocks.{present};
-ghost use Rattle.rehearse.specs.Played.{Started, Set_to, Ticked, Later, Played};
+ghost use Rattle.rehearse.specs.Played.{Started, SetTo, Ticked, Later, Played};
 
 use clock::clocks::Clocks;
 use clock::terms::Terms;
@@ -37,7 +37,7 @@ impl Rehearsal {
     }
 
     fn set(&mut self, keeper: u64, borrowers: [u64; 4]) -> Said
-        ensures { Set_to self.old self.new keeper borrowers result }
+        ensures { SetTo self.old self.new keeper borrowers result }
     {
         if self.begun {
             return Said::Refused(Refusal::Malformed);

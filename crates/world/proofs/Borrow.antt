@@ -48,19 +48,19 @@ moves S w inv f g cs new mv near news newer single held =
           inv.apart i j q m n k l u v ne a' b' (live_moved (mv i q) (inv.mail (Loan i q m k u) a').0 x) (live_moved (mv j q) (inv.mail (Loan j q n l v) b').0 y);
       excl = inv.excl;
       newest = inv.newest;
-      doneIn = inv.doneIn;
+      done_in = inv.done_in;
       puts = λ p h. ((inv.puts p h).0, Memᴰ.append_left new (inv.puts p h).1);
       once = inv.once;
       known = λ i q. ((mv i q).writes _ (inv.known i q).0, (mv i q).writes _ (inv.known i q).1);
       near = near;
-      oneBytes = λ i q n u v s t. one i q n u v (split _ s) (split _ t);
+      one_bytes = λ i q n u v s t. one i q n u v (split _ s) (split _ t);
     }
   where
     split : (m : Msg) → Memᴰ m (w.sent ++ new) → Memᴰ m w.sent ⊎ Memᴰ m new
     split m h = Memᴰ.append_cases w.sent h
 
     one : (i q n : ℕ) (u v : List ℕ) → Memᴰ (Write i q n u) w.sent ⊎ Memᴰ (Write i q n u) new → Memᴰ (Write i q n v) w.sent ⊎ Memᴰ (Write i q n v) new → u ≡ v
-    one i q n u v (inl s) (inl t) = inv.oneBytes i q n u v s t
+    one i q n u v (inl s) (inl t) = inv.one_bytes i q n u v s t
     one i q n u v (inl s) (inr t) = absurd (omega (arith, newer (Write i q n v) t, (inv.mail (Write i q n u) s).written))
     one i q n u v (inr s) (inl t) = absurd (omega (arith, newer (Write i q n u) s, (inv.mail (Write i q n v) t).written))
     one i q n u v (inr s) (inr t) = let e = single (Write i q n u) (Write i q n v) s t tt in cc

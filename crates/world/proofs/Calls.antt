@@ -51,11 +51,11 @@ module _ (S : Setting) (w : World) (past : List Moment) (ms : List Msg) (H : Lis
   small : p.write ≤ 4294967295
   small = small_write d p near
 
-  abbrev After_step : Part → (ℕ → List ℕ) → List Msg → Type 0
-  After_step p' c new = Inv S (view (with_borrower i (stepped S w past ms H inv i q p' c file) w) past (ms ++ new) H)
+  abbrev AfterStep : Part → (ℕ → List ℕ) → List Msg → Type 0
+  AfterStep p' c new = Inv S (view (with_borrower i (stepped S w past ms H inv i q p' c file) w) past (ms ++ new) H)
 
   -- the part changes and nothing is sent
-  silent : (p' : Part) → Small p' → Moved p d p' d → Held ms i q p' (cs q) → After_step p' cs []
+  silent : (p' : Part) → Small p' → Moved p d p' d → Held ms i q p' (cs q) → AfterStep p' cs []
   silent p' s mv hd =
       let u = filed_up p p' d s in
       part_moves S w past ms H inv i q p' cs file [] (moved_trans mv (filing_moves p' d _ u.0 u.1)) (after p p' d near s).0 tt nobody (λ r ne. refl) (held_more ms [] i q p' (cs q) hd)
@@ -76,10 +76,10 @@ module _ (S : Setting) (w : World) (past : List Moment) (ms : List Msg) (H : Lis
     settled_held : Held ms i q p1 (cs q)
     settled_held = settle_held ms i q c s p (cs q) (inv.held i q)
 
-    pub still : After_step p1 cs []
+    pub still : AfterStep p1 cs []
     still = silent p1 (se.1, sw) settled_moves settled_held
 
-    asked_inv : (k : Kind) → c ≡ w.now.hand (suc i) → holds p1.hold ≡ false → p1.ask < 4294967294 → After_step (asking c p1) cs (Ask i q (p1.ask + 1) k p1.write ∷ [])
+    asked_inv : (k : Kind) → c ≡ w.now.hand (suc i) → holds p1.hold ≡ false → p1.ask < 4294967294 → AfterStep (asking c p1) cs (Ask i q (p1.ask + 1) k p1.write ∷ [])
     asked_inv k clock none room =
         let a = after p (asking c p1) d near (omega (arith, room), sw) in
         let v = a.1 (inl (omega (arith, se.0))) in
@@ -103,16 +103,16 @@ module _ (S : Setting) (w : World) (past : List Moment) (ms : List Msg) (H : Lis
         (alone (Ask i q (p1.ask + 1) k p1.write)) (λ r ne. refl)
         (λ l b h. absurd (holds_none p1.hold none l b h))
 
-    pub ask_inv : (k : Kind) → c ≡ w.now.hand (suc i) → After_step (ask_of c s p1).0 cs (ask_sends i q k (ask_of c s p1).1)
+    pub ask_inv : (k : Kind) → c ≡ w.now.hand (suc i) → AfterStep (ask_of c s p1).0 cs (ask_sends i q k (ask_of c s p1).1)
     ask_inv k clock =
         cond_both (holds p1.hold) (p1, Err HoldsCopy) _ M (λ e. still)
         (λ e. cond_both (leb 4294967294 p1.ask || leb (2 ^ 64) (c + s)) (p1, Err Exhausted) _ M (λ t. still)
         (λ t. asked_inv k clock e (leb-false 4294967294 p1.ask (or_parts (leb 4294967294 p1.ask) _ t).0)))
       where
         M : Part × Result Asked Refusal → Type 0
-        M r = After_step r.0 cs (ask_sends i q k r.1)
+        M r = AfterStep r.0 cs (ask_sends i q k r.1)
 
-    wrote_inv : (v : List ℕ) → p1.write < 4294967295 → After_step (wrote p1) cs (Write i q (p1.write + 1) v ∷ [])
+    wrote_inv : (v : List ℕ) → p1.write < 4294967295 → AfterStep (wrote p1) cs (Write i q (p1.write + 1) v ∷ [])
     wrote_inv v room =
         let a = after p (wrote p1) d near (omega arith, omega (arith, room)) in
         let b = a.1 (inr (omega (arith, se.2))) in
@@ -124,20 +124,20 @@ module _ (S : Setting) (w : World) (past : List Moment) (ms : List Msg) (H : Lis
         (alone (Write i q (p1.write + 1) v)) (λ r ne. refl)
         (none_held _ i q (wrote p1) (cs q) refl)
 
-    pub write_inv : (v : List ℕ) → After_step (write_of p1).0 cs (write_sends i q v (write_of p1).1)
+    pub write_inv : (v : List ℕ) → AfterStep (write_of p1).0 cs (write_sends i q v (write_of p1).1)
     write_inv v = go (writable p1.hold)
       where
         M : Part × Result ℕ Refusal → Type 0
-        M r = After_step r.0 cs (write_sends i q v r.1)
+        M r = AfterStep r.0 cs (write_sends i q v r.1)
 
         go : (r : Result (Unit {0}) Refusal) → M (write_by p1 r)
         go (Err e) = still
         go (Ok u) = cond_both (leb last_number p1.write) (p1, Err Exhausted) (wrote p1, Ok (p1.write + 1)) M (λ t. still) (λ t. wrote_inv v (leb-false last_number p1.write t))
 
-  pub forget_inv : After_step (released p) cs []
+  pub forget_inv : AfterStep (released p) cs []
   forget_inv = silent (released p) (released_small p small) (release_moves p d d (omega arith) (omega arith)) (none_held ms i q (released p) (cs q) refl)
 
-  pub recall_inv : After_step (released p) cs (Back i q p.ask ∷ [])
+  pub recall_inv : AfterStep (released p) cs (Back i q p.ask ∷ [])
   recall_inv =
       let s = released_small p small in
       let a = after p (released p) d near s in
@@ -153,15 +153,15 @@ module _ (S : Setting) (w : World) (past : List Moment) (ms : List Msg) (H : Lis
       gone (inl h) f x = omega (arith, (f (inl (omega arith))).0)
       gone (inr h) f x = absurd (omega (arith, (recall_covered p d near).1))
 
-  pub loan_inv : (n : ℕ) (k : Kind) (v : List ℕ) → Memᴰ (Loan i q n k v) ms → After_step (loan_of n k p).0 (taken q v (loan_of n k p).1 cs) []
+  pub loan_inv : (n : ℕ) (k : Kind) (v : List ℕ) → Memᴰ (Loan i q n k v) ms → AfterStep (loan_of n k p).0 (taken q v (loan_of n k p).1 cs) []
   loan_inv n k v mem =
       cond_both (holds p.hold) (p, Err HoldsCopy) _ M (λ e. same)
       (λ none. cond_both (eqb n p.ask) (lent k p, Ok tt) (p, Err OtherAsk) M (λ e. takes (eqb-true n p.ask e)) (λ e. same))
     where
       M : Part × Result (Unit {0}) Refusal → Type 0
-      M r = After_step r.0 (taken q v r.1 cs) []
+      M r = AfterStep r.0 (taken q v r.1 cs) []
 
-      same : After_step p cs []
+      same : AfterStep p cs []
       same = silent p (near.ask_last, small) (moved_refl p d) (inv.held i q)
 
       here : at_1 q v cs q ≡ v
@@ -170,7 +170,7 @@ module _ (S : Setting) (w : World) (past : List Moment) (ms : List Msg) (H : Lis
       held : n ≡ p.ask → Held (ms ++ []) i q (lent k p) v
       held e l a h = let m : Loan i q p.ask l v ≡ Loan i q n k v = cc in (Memᴰ.append_left [] (Memᴰ.cast m mem), cc)
 
-      takes : n ≡ p.ask → After_step (lent k p) (at_1 q v cs) []
+      takes : n ≡ p.ask → AfterStep (lent k p) (at_1 q v cs) []
       takes e =
           let u = filed_up p (lent k p) d (near.ask_last, small) in
           part_moves S w past ms H inv i q (lent k p) (at_1 q v cs) file []

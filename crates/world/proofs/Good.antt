@@ -34,7 +34,7 @@ setting w = record { short = w.short; long = w.keeper.book.long }
 pub record KeeperFile (k : Lender) (H : List Put) : Type 0 where
   pub journal : Journal owner.Keeper k.up k.file
   pub kept : memory k.book k.parts ≡ recovered k.file
-  pub onDisk : H ≡ puts (records_of owner.Keeper k.file) []
+  pub on_disk : H ≡ puts (records_of owner.Keeper k.file) []
 
 -- a borrower's journal says its numbers on file
 pub record BorrowerFile (b : Borrower) : Type 0 where

@@ -142,12 +142,12 @@ pub record Inv (S : Setting) (w : State) : Type 0 where
   pub excl : (a b : Lease) → Memᴰ a w.keeper.leases → Memᴰ b w.keeper.leases → a.place ≡ b.place → (a.who ≡ b.who → ⊥) →
       w.now.hand 0 < a.until → w.now.hand 0 < b.until → a.kind ≡ Reading
   pub newest : (q : ℕ) → w.keeper.value q ≡ latest q w.applied
-  pub doneIn : (q i : ℕ) → (w.keeper.done q i ≡ 0) ⊎ ((v : List ℕ) × Memᴰ (record { who = i; place = q; number = w.keeper.done q i; bytes = v }) w.applied)
+  pub done_in : (q i : ℕ) → (w.keeper.done q i ≡ 0) ⊎ ((v : List ℕ) × Memᴰ (record { who = i; place = q; number = w.keeper.done q i; bytes = v }) w.applied)
   pub puts : (p : Put) → Memᴰ p w.applied → (p.number ≤ w.keeper.done p.place p.who) × Memᴰ (Write p.who p.place p.number p.bytes) w.sent
   pub once : Once w.applied
   pub known : (i q : ℕ) → Wrote (w.part i q) (w.disk i q) (w.keeper.done q i) × Wrote (w.part i q) (w.disk i q) (w.keeper.void q i)
   pub near : (i q : ℕ) → Near (w.disk i q) (w.part i q)
-  pub oneBytes : (i q n : ℕ) (u v : List ℕ) → Memᴰ (Write i q n u) w.sent → Memᴰ (Write i q n v) w.sent → u ≡ v
+  pub one_bytes : (i q n : ℕ) (u v : List ℕ) → Memᴰ (Write i q n u) w.sent → Memᴰ (Write i q n v) w.sent → u ≡ v
 
 -- a part's numbers go on, so that all that was sent still fits
 pub record Moved (p : Part) (d : OnFile) (p' : Part) (d' : OnFile) : Type 0 where

@@ -69,12 +69,12 @@ module _ (S : Setting) (w : State) (inv : Inv S w) where
         apart = inv.apart;
         excl = λ x y s t. inv.excl x y (sub x s) (sub y t);
         newest = inv.newest;
-        doneIn = inv.doneIn;
+        done_in = inv.done_in;
         puts = inv.puts;
         once = inv.once;
         known = inv.known;
         near = inv.near;
-        oneBytes = inv.oneBytes;
+        one_bytes = inv.one_bytes;
       }
 
   pub stop_inv : Inv S (keeping w (record { value = w.keeper.value; done = w.keeper.done; void = w.keeper.void; leases = []; quiet = 0; up = false }) w.sent w.applied)
@@ -161,12 +161,12 @@ module _ (S : Setting) (w : State) (inv : Inv S w) where
             apart = λ a b r x y g h u v ne s t. apart a b r x y g h u v ne (Memᴰ.append_cases w.sent s) (Memᴰ.append_cases w.sent t);
             excl = excl;
             newest = inv.newest;
-            doneIn = inv.doneIn;
+            done_in = inv.done_in;
             puts = λ p h. ((inv.puts p h).0, Memᴰ.append_left (msg ∷ []) (inv.puts p h).1);
             once = inv.once;
             known = λ j r. ((inv.known j r).0, void_known j r);
             near = inv.near;
-            oneBytes = λ j r x u v s t. inv.oneBytes j r x u v (old j r x u (Memᴰ.append_cases w.sent s)) (old j r x v (Memᴰ.append_cases w.sent t));
+            one_bytes = λ j r x u v s t. inv.one_bytes j r x u v (old j r x u (Memᴰ.append_cases w.sent s)) (old j r x v (Memᴰ.append_cases w.sent t));
           }
         where
           old : (a r x : ℕ) (u : List ℕ) → Memᴰ (Write a r x u) w.sent ⊎ Memᴰ (Write a r x u) (msg ∷ []) → Memᴰ (Write a r x u) w.sent
@@ -247,12 +247,12 @@ module _ (S : Setting) (w : State) (inv : Inv S w) where
             apart = λ a b r x y g h u o ne s t. inv.apart a b r x y g h u o ne (old a r x g u (Memᴰ.append_cases w.sent s)) (old b r y h o (Memᴰ.append_cases w.sent t));
             excl = inv.excl;
             newest = λ r. ap (cond (eqb r q) v) (inv.newest r);
-            doneIn = done_in;
+            done_in = done_in;
             puts = puts;
             once = ((λ p h a b c. omega (arith, (inv.puts p h).0, same p a b)), inv.once);
             known = λ j r. (known j r, (inv.known j r).1);
             near = inv.near;
-            oneBytes = λ j r x u o s t. inv.oneBytes j r x u o (oldw j r x u (Memᴰ.append_cases w.sent s)) (oldw j r x o (Memᴰ.append_cases w.sent t));
+            one_bytes = λ j r x u o s t. inv.one_bytes j r x u o (oldw j r x u (Memᴰ.append_cases w.sent s)) (oldw j r x o (Memᴰ.append_cases w.sent t));
           }
         where
           known : (j r : ℕ) → Wrote (w.part j r) (w.disk j r) (in_it.done r j)
@@ -287,7 +287,7 @@ module _ (S : Setting) (w : State) (inv : Inv S w) where
           old a r x g u (inr h) = absurd (subst NoLoan (sym (Memᴰ.eq_of_singleton h)) tt)
 
           done_in : (r j : ℕ) → (in_it.done r j ≡ 0) ⊎ ((u : List ℕ) × Memᴰ (record { who = j; place = r; number = in_it.done r j; bytes = u }) (put ∷ w.applied))
-          done_in = at_two q i n w.keeper.done (λ r j x. (x ≡ 0) ⊎ ((u : List ℕ) × Memᴰ (record { who = j; place = r; number = x; bytes = u }) (put ∷ w.applied))) (inr (v, Memᴰ.head refl)) (λ r j. more r j (inv.doneIn r j))
+          done_in = at_two q i n w.keeper.done (λ r j x. (x ≡ 0) ⊎ ((u : List ℕ) × Memᴰ (record { who = j; place = r; number = x; bytes = u }) (put ∷ w.applied))) (inr (v, Memᴰ.head refl)) (λ r j. more r j (inv.done_in r j))
             where
               more : (r j : ℕ) → (w.keeper.done r j ≡ 0) ⊎ ((u : List ℕ) × Memᴰ (record { who = j; place = r; number = w.keeper.done r j; bytes = u }) w.applied) → (w.keeper.done r j ≡ 0) ⊎ ((u : List ℕ) × Memᴰ (record { who = j; place = r; number = w.keeper.done r j; bytes = u }) (put ∷ w.applied))
               more r j (inl e) = inl e
@@ -307,10 +307,10 @@ module _ (S : Setting) (w : State) (inv : Inv S w) where
         apart = λ a b q m n k l u v ne s t. i.apart a b q m n k l u v ne (Memᴰ.append_left ms s) (Memᴰ.append_left ms t);
         excl = i.excl;
         newest = i.newest;
-        doneIn = i.doneIn;
+        done_in = i.done_in;
         puts = λ p h. ((i.puts p h).0, old p h);
         once = i.once;
         known = i.known;
         near = i.near;
-        oneBytes = inv.oneBytes;
+        one_bytes = inv.one_bytes;
       }

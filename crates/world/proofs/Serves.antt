@@ -107,11 +107,11 @@ module _ (r : Run) (ms : List Msg) (G : Good (setting r.world) r ms) where
 
   down_good : (f : List ℕ) (H : List Put) → Journal owner.Keeper false f → H ≡ puts (records_of owner.Keeper f) [] → DownInv (recovered f) H →
       Good S (record { world = with_keeper (keeper_down K.book.long f) w; past = r.past; applied = H }) ms
-  down_good f H j d i = record { inv = i; wire = G.wire; formed = G.formed; keeper = record { journal = j; kept = refl; onDisk = d }; borrowers = G.borrowers }
+  down_good f H j d i = record { inv = i; wire = G.wire; formed = G.formed; keeper = record { journal = j; kept = refl; on_disk = d }; borrowers = G.borrowers }
 
   pub stop_good : Good S (on r (with_keeper (keeper_down K.book.long K.file) w)) ms
   stop_good =
-      down_good K.file r.applied (record { torn = G.keeper.journal.torn; whole = λ u. let z : ◌≡◌ {A = ℕ} 0 1 = cc in absurd (omega arith) }) G.keeper.onDisk
+      down_good K.file r.applied (record { torn = G.keeper.journal.torn; whole = λ u. let z : ◌≡◌ {A = ℕ} 0 1 = cc in absurd (omega arith) }) G.keeper.on_disk
       (subst (λ (s : Memory). DownInv s r.applied) G.keeper.kept (stop_inv S V G.inv))
 
   pub up_good : Clocked S w.now r.past → Good S (on r (with_keeper (keeper_up (w.now.hand 0) K.book.long K.file) w)) ms
@@ -121,7 +121,7 @@ module _ (r : Run) (ms : List Msg) (G : Good (setting r.world) r ms) where
         inv = subst (λ (s : Memory). Inv S (keeping V (record { value = s.parts; done = s.done; void = s.void; leases = []; quiet = w.now.hand 0 + K.book.long; up = true }) ms r.applied)) G.keeper.kept (rise_inv S V G.inv C);
         wire = G.wire;
         formed = G.formed;
-        keeper = record { journal = c.1; kept = ap (λ (rs : List Rec). replay rs nothing) (sym c.0); onDisk = G.keeper.onDisk ∙ ap (λ (rs : List Rec). puts rs []) (sym c.0) };
+        keeper = record { journal = c.1; kept = ap (λ (rs : List Rec). replay rs nothing) (sym c.0); on_disk = G.keeper.on_disk ∙ ap (λ (rs : List Rec). puts rs []) (sym c.0) };
         borrowers = G.borrowers;
       }
 
@@ -173,14 +173,14 @@ module _ (r : Run) (ms : List Msg) (G : Good (setting r.world) r ms) where
 
     -- a write
     module _ (i q n : ℕ) (v : List ℕ) (sent : Memᴰ (Write i q n v) ms) where
-      abbrev Wrote_so : WriteAnswer → Type 0
-      Wrote_so a = Served K.up (after_write i q n a K.book) (parts_after q v a K.parts) (write_sends i q n a) (puts (write_records i q n v a) r.applied)
+      abbrev WroteSo : WriteAnswer → Type 0
+      WroteSo a = Served K.up (after_write i q n a K.book) (parts_after q v a K.parts) (write_sends i q n a) (puts (write_records i q n v a) r.applied)
 
       not_in : K.book.done q i < n → NotIn r.applied i q n
       not_in h p z a b e = let same : K.book.done p.place p.who ≡ K.book.done q i = cc in omega (arith, (G.inv.puts p z).0)
 
       again : (eqb n (K.book.done q i) && ltb 0 n) ≡ true → (u : List ℕ) × Memᴰ (record { who = i; place = q; number = n; bytes = u }) r.applied
-      again e = go (G.inv.doneIn q i)
+      again e = go (G.inv.done_in q i)
         where
           is : n ≡ K.book.done q i
           is = eqb-true _ _ (and_parts (eqb n (K.book.done q i)) (ltb 0 n) e).0
@@ -192,13 +192,13 @@ module _ (r : Run) (ms : List Msg) (G : Good (setting r.world) r ms) where
           go (inl z) = absurd (omega (arith, is, pos))
           go (inr h) = rw is h
 
-      write_served : Wrote_so (write_answer c i q n K.book)
+      write_served : WroteSo (write_answer c i q n K.book)
       write_served =
-          cond_both (ltb c K.book.quiet) write.Quiet _ Wrote_so (λ e. nothing_new) λ loud.
-          cond_both (eqb n (K.book.done q i) && ltb 0 n) write.Again _ Wrote_so (λ e. quietly S V G.inv (In i q n ∷ []) ((tt, again e, tt, λ x. x), tt)) λ other.
-          cond_both (leb n (K.book.done q i)) write.Passed _ Wrote_so (λ e. nothing_new) λ new.
-          cond_both (leb n (K.book.void q i)) write.Void _ Wrote_so (λ e. quietly S V G.inv (Void i q n ∷ []) ((tt, (omega (arith, leb-true _ _ e), not_in (leb-false _ _ new)), tt, λ x. x), tt)) λ good.
-          cond_both (any (allowing c i q) K.book.leases) write.Applied write.Passed Wrote_so
+          cond_both (ltb c K.book.quiet) write.Quiet _ WroteSo (λ e. nothing_new) λ loud.
+          cond_both (eqb n (K.book.done q i) && ltb 0 n) write.Again _ WroteSo (λ e. quietly S V G.inv (In i q n ∷ []) ((tt, again e, tt, λ x. x), tt)) λ other.
+          cond_both (leb n (K.book.done q i)) write.Passed _ WroteSo (λ e. nothing_new) λ new.
+          cond_both (leb n (K.book.void q i)) write.Void _ WroteSo (λ e. quietly S V G.inv (Void i q n ∷ []) ((tt, (omega (arith, leb-true _ _ e), not_in (leb-false _ _ new)), tt, λ x. x), tt)) λ good.
+          cond_both (any (allowing c i q) K.book.leases) write.Applied write.Passed WroteSo
           (λ e. put_inv S V G.inv C awake (ltb-false _ _ loud) i q n v sent (leb-false _ _ new) (leb-false _ _ good) (may c i q K.book.leases e))
           (λ e. nothing_new)
 
@@ -234,7 +234,7 @@ module _ (r : Run) (ms : List Msg) (G : Good (setting r.world) r ms) where
 
       lists : (f : List ℕ) (more : List Rec) → records_of owner.Keeper f ≡ records_of owner.Keeper K.file ++ more → puts more r.applied ≡ puts (records_of owner.Keeper f) []
       lists f more e =
-          ap (puts more) G.keeper.onDisk ∙ sym (puts_append (records_of owner.Keeper K.file) more []) ∙ ap (λ (x : List Rec). puts x []) (sym e)
+          ap (puts more) G.keeper.on_disk ∙ sym (puts_append (records_of owner.Keeper K.file) more []) ∙ ap (λ (x : List Rec). puts x []) (sym e)
 
       formed : (o : Option Msg) → ((x : Msg) → o ≡ Some x → Memᴰ x ms) → Each WellFormed (E o).sends
       formed None f = tt
@@ -250,7 +250,7 @@ module _ (r : Run) (ms : List Msg) (G : Good (setting r.world) r ms) where
             inv = subst (λ (u : Bool). Served u (heard_book c (read bs) K.book) (heard_parts c (read bs) K.book K.parts) (E (read bs)).sends (puts rs r.applied)) awake inv';
             wire = more_wire w.sent ms (E (read bs)).sends G.wire;
             formed = more_formed ms (E (read bs)).sends G.formed (formed (read bs) mem);
-            keeper = record { journal = grown_journal owner.Keeper K.file is rs snd; kept = kept c (read bs) K.book K.parts ∙ sym (makes (K.file ++ bytes_of rs) rs g); onDisk = lists (K.file ++ bytes_of rs) rs g };
+            keeper = record { journal = grown_journal owner.Keeper K.file is rs snd; kept = kept c (read bs) K.book K.parts ∙ sym (makes (K.file ++ bytes_of rs) rs g); on_disk = lists (K.file ++ bytes_of rs) rs g };
             borrowers = G.borrowers;
           }
 

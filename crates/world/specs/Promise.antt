@@ -60,16 +60,16 @@ pub record Promise (first : Run) (events : List Event) (r : Run) : Type 0 where
   pub shown : (i q : ℕ) (v : List ℕ) → (r.world.borrower i).up ≡ true → (call_effect i q Show v r.world).answer ≡ Ok tt →
       ((r.world.borrower i).copies q ≡ latest q r.applied) × ((r.world.borrower i).copies q ≡ r.world.keeper.parts q)
   -- no two borrowers may show a part while one of them may write it
-  pub oneWriter : (i j q : ℕ) (k l : Kind) → (i ≢ j) → MayShow r.world i q k → MayShow r.world j q l → (k ≡ Reading) × (l ≡ Reading)
+  pub one_writer : (i j q : ℕ) (k l : Kind) → (i ≢ j) → MayShow r.world i q k → MayShow r.world j q l → (k ≡ Reading) × (l ≡ Reading)
   -- what is applied was sent by a call that was allowed, and nothing is applied twice
-  pub onlyWrites : (p : Put) → Memᴰ p r.applied → Made first events p
+  pub only_writes : (p : Put) → Memᴰ p r.applied → Made first events p
   pub once : Once r.applied
   -- a write that was answered as in is applied
   pub told : (i q n : ℕ) → Sent r.world (In i q n) → (v : List ℕ) × Memᴰ (record { who = i; place = q; number = n; bytes = v }) r.applied
   -- one that was answered as void is not
   pub void : (i q n : ℕ) → Sent r.world (Void i q n) → NotIn r.applied i q n
   -- the writes applied are those on the keeper's disk, in their order, through any stops
-  pub onDisk : r.applied ≡ puts (records_of owner.Keeper r.world.keeper.file) []
+  pub on_disk : r.applied ≡ puts (records_of owner.Keeper r.world.keeper.file) []
   -- what the keeper has is what its journal replays to
   pub kept : memory r.world.keeper.book r.world.keeper.parts ≡ recovered r.world.keeper.file
 
