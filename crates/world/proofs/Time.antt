@@ -1,6 +1,6 @@
 -- Time goes on only by ticks, clocks don't go back, and the terms stay as they are.
 -- Assumes nothing.
-use Rattle.std.proofs.Common.{◌≡◌, ℕ, ◌+◌, ◌-◌, ◌^◌, ◌<◌, true, false, ltb, leb, ◌⊎◌, List, ◌∷◌, Some, None, Option, sym, refl, ap, subst, inl, inr, arith}
+use Rattle.std.proofs.Common.{◌≡◌, ℕ, ◌+◌, ◌-◌, ◌^◌, ◌<◌, true, false, ltb, leb, ◌⊎◌, List, [], ◌∷◌, Some, None, Option, sym, refl, ap, subst, inl, inr, arith}
 use mathlib.Core.List.{Memᴰ}
 use native.Mathlib.Nat.{sub_self}
 use Rattle.std.proofs.lemmas.Bool.{cond_both}
@@ -19,7 +19,8 @@ use Rattle.lender.specs.Rules.{Book, ask_answer, after_ask, write_answer, after_
 use Rattle.lender.specs.Replies.{heard_book}
 use Rattle.borrower.specs.declared.outcome.Call.{Call}
 use Rattle.world.specs.World.{World, Node, keeper, borrower, Event, tick, call, deliver, stop, up, can_call, called, is_up, arrived, cut, stopped, risen_from, with_keeper, with_borrower, keeper_up, borrower_up, long_of, step}
-use Rattle.world.specs.Runs.{Run, moments, next}
+use Rattle.world.specs.Runs.{Run, moments, next, run, start}
+use Rattle.world.specs.Laws.{TimeGoesOn}
 use Rattle.world.proofs.Inv.{Clocked}
 use Rattle.world.proofs.Good.{setting}
 
@@ -98,6 +99,14 @@ ordered r e h = go (timely r e)
     go : (moments (next r e) ≡ moments r) ⊎ ((p : Passing) × (moments (next r e) ≡ after r.world.now p ∷ moments r)) → Pairs Later (moments (next r e))
     go (inl s) = subst (Pairs Later) (sym s) h
     go (inr (p, s)) = subst (Pairs Later) (sym s) ((λ o m. later_after o r.world.now p (earlier r.world.now r.past h o m)), h)
+
+in_order : (short long : ℕ) (m : Moment) (events : List Event) → Pairs Later (moments (run (start short long m) events))
+unfolding Pairs run
+in_order s l m [] = ((λ o z. elim z [ ]), tt)
+in_order s l m (e ∷ es) = ordered (run (start s l m) es) e (in_order s l m es)
+
+pub time_goes_on : TimeGoesOn
+time_goes_on = in_order
 
 -- what holds of all moments held of those before
 pub back : (P : Moment → Moment → Type 0) (r : Run) (e : Event) → Pairs P (moments (next r e)) → Pairs P (moments r)

@@ -1,10 +1,12 @@
-// The world of one keeper, its borrowers, the network, the journals and the true time, and the theorem about all its runs.
+// The world of one keeper, its borrowers, the network, the journals and the true time, and what is true of all its runs.
+// Only the order of moments is named by a function so far; the theorem over whole runs is to come.
 #![tactic(auto)]
 
-ghost use Rattle.std.specs.Prelude.{◌≡◌};
+ghost use Rattle.world.specs.Laws.{TimeGoesOn};
 
-pub fn nothing_yet() -> u8
-    ensures { result ≡ 0 }
+/// Names the law that in every run the true time and all clocks only go on.
+pub fn time_goes_on() -> u8
+    ensures { TimeGoesOn }
 {
     0
 }
