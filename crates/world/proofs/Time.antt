@@ -100,13 +100,10 @@ ordered r e h = go (timely r e)
     go (inl s) = subst (Pairs Later) (sym s) h
     go (inr (p, s)) = subst (Pairs Later) (sym s) ((λ o m. later_after o r.world.now p (earlier r.world.now r.past h o m)), h)
 
-in_order : (short long : ℕ) (m : Moment) (events : List Event) → Pairs Later (moments (run (start short long m) events))
-unfolding Pairs run
-in_order s l m [] = ((λ o z. elim z [ ]), tt)
-in_order s l m (e ∷ es) = ordered (run (start s l m) es) e (in_order s l m es)
-
 pub time_goes_on : TimeGoesOn
-time_goes_on = in_order
+unfolding Pairs run
+time_goes_on s l m [] = ((λ o z. elim z [ ]), tt)
+time_goes_on s l m (e ∷ es) = ordered (run (start s l m) es) e (time_goes_on s l m es)
 
 -- what holds of all moments held of those before
 pub back : (P : Moment → Moment → Type 0) (r : Run) (e : Event) → Pairs P (moments (next r e)) → Pairs P (moments r)
