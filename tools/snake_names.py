@@ -1,27 +1,31 @@
 #!/usr/bin/env python3
 """Respells the repository's own names: definitions, lemmas, fields and constructors in snake case, types in upper camel case.
 
-Run once, at the top, after the kit's port.py. A name is respelled where it is declared in specs/ or proofs/ of some
-crate; names of the standard library, and names that the checker makes, keep their dashes. In .rt files only clauses,
-ghost items and imports are touched, never strings, comments or code. Names that would fall together are printed, and
-nothing is written then.
+usage: tools/snake_names.py [TOP] [--force] [--list]
+
+Run once, at the top, after the kit's port.py. A name is respelled where specs/ or proofs/ of some crate declare it;
+names of the standard library, and names that the checker makes, keep their dashes. In .rt files only clauses, ghost
+items and imports are touched, never strings, comments or code. Where a file would have two names fall together it is
+printed, and nothing is written but with --force. --list prints the names.
 """
 import pathlib
 import re
 import sys
 
-TOKEN = re.compile(r"[A-Za-z_][A-Za-z0-9_']*(?:-[A-Za-z0-9_']+)*")
-DECLARES = re.compile(
-    r"^\s*(?:(?:pub|abbrev|unfoldable|record|data|mutual|private)\s+)*"
-    r"([A-Za-z_][A-Za-z0-9_']*(?:-[A-Za-z0-9_']+)*)\s*(?:[({][^:=]*[)}]\s*)*:(?!:)"
-)
-FIELD = re.compile(r"^\s*pub\s+([A-Za-z_][A-Za-z0-9_']*(?:-[A-Za-z0-9_']+)*)\s*:")
-LET = re.compile(r"\blet\s+([A-Za-z_][A-Za-z0-9_']*(?:-[A-Za-z0-9_']+)+)\b")
-BINDER = re.compile(r"[({]([A-Za-z_][\w' -]*?) :")
-ALIAS = re.compile(r" as ([A-Za-z_][\w'-]*)[,}]")
-MODULE = re.compile(r"use Rattle\.(?!std\b)[\w.]+ as ([A-Za-z_][\w'-]*)")
-RECORD = re.compile(r"^\s*(?:abbrev\s+)?pub\s+(?:record|data)\s+([A-Za-z_][A-Za-z0-9_']*(?:-[A-Za-z0-9_']+)*)")
-
+NAME = r"[A-Za-z_][\w']*(?:-[\w']+)*"
+TOKEN = re.compile(NAME)
+# What declares names: a signature or a field, a record or a data type, a let, the variables of a binder, an import by
+# another name.
+DECLARES = [
+    re.compile(rf"^\s*(?:(?:pub|abbrev|unfoldable|record|data|mutual|private)\s+)*({NAME})\s*(?:[({{][^:=]*[)}}]\s*)*:(?!:)"),
+    re.compile(rf"^\s*(?:abbrev\s+)?pub\s+(?:record|data)\s+({NAME})"),
+    re.compile(rf"\blet\s+({NAME})"),
+    re.compile(r"[({]([A-Za-z_][\w' -]*?) :"),
+    re.compile(rf" as ({NAME})[,}}]"),
+]
+FIELD = re.compile(rf"^\s*pub\s+({NAME})\s*:")
+MODULE = re.compile(rf"use Rattle\.(?!std\b)[\w.]+ as ({NAME})")
+STD_IMPORT = re.compile(r"use Rattle\.std\.[\w.]+\.\{([^}]*)\}")
 
 # What these files declare answers goals of the checker, which has named them.
 ANSWERS = ("Answers.antt", "Invariants.antt", "Proof.antt")
@@ -39,12 +43,13 @@ def respell(name):
     return re.sub(r"(?<=[a-z0-9])[A-Z]", lambda found: "_" + found.group(0).lower(), name.replace("-", "_"))
 
 
-def is_older(name):
-    return respell(name) != name
+def older(texts):
+    """Those of these words that are not in today's spelling."""
+    return {word for text in texts for word in text.split() if respell(word) != word}
 
 
 def files(top, ending):
-    return sorted(p for p in top.glob(f"crates/*/**/*{ending}") if "/out/" not in str(p))
+    return sorted(p for p in top.glob(f"crates/*/**/*{ending}") if "out" not in p.parts)
 
 
 def code(line):
@@ -58,31 +63,27 @@ def declared(top):
     for path in files(top, ".antt"):
         if path.name in ANSWERS and "proofs" in path.parts:
             continue
-        for line in path.read_text().split("\n"):
-            line = code(line)
-            for pattern in (DECLARES, RECORD, LET):
-                found = pattern.match(line) if pattern is not LET else pattern.search(line)
-                if found and is_older(found.group(1)):
-                    names.add(found.group(1))
-            for binder in BINDER.findall(line):
-                names.update(word for word in binder.split() if is_older(word))
-            names.update(word for word in ALIAS.findall(line) if is_older(word))
-            found = FIELD.match(line)
-            if found and is_older(found.group(1)):
-                names.add(found.group(1))
-                fields.add(found.group(1))
+        for line in map(code, path.read_text().split("\n")):
+            for pattern in DECLARES:
+                names |= older(pattern.findall(line))
+            fields |= older(FIELD.findall(line))
     return names, fields
 
 
-def respelled(text, names, fields, imports_of_std, modules):
-    """The text with each declared name respelled; a name behind a dot only where it is a field, or stands in a module of ours."""
+def std_imports(text):
+    """The names that the file imports from the standard library, as it calls them."""
+    items = [item.strip() for group in STD_IMPORT.findall(text) for item in group.split(",")]
+    return {item.split(" as ")[-1].strip() for item in items}
+
+
+def respelled(text, names, fields, modules):
+    """The text with each of the names respelled; one behind a dot only where it is a field, or stands in a module of ours."""
 
     def one(match):
         word = match.group(0)
-        if word not in names or word in imports_of_std:
+        if word not in names:
             return word
-        before = text[match.start() - 1] if match.start() else ""
-        if before == "." and word not in fields:
+        if text[: match.start()].endswith(".") and word not in fields:
             owner = re.search(r"(?<![\w.'-])([A-Za-z_][\w']*)\.$", text[: match.start()])
             if not owner or owner.group(1) not in modules:
                 return word
@@ -91,68 +92,50 @@ def respelled(text, names, fields, imports_of_std, modules):
     return TOKEN.sub(one, text)
 
 
-def std_imports(text):
-    found = set()
-    for path, items in re.findall(r"use (Rattle\.std\.[A-Za-z_.]+)\.\{([^}]*)\}", text):
-        for item in items.split(","):
-            item = item.strip()
-            if " as " in item:
-                item = item.split(" as ")[1].strip()
-            found.add(item)
-    return found
-
-
 def clauses_only(text, change):
     """Applies change to the clauses, ghost items and ghost imports of a .rt file."""
-    out, depth, inside = [], 0, False
+    out, depth = [], 0
     for line in text.split("\n"):
         bare = line.strip()
         starts = re.match(r"(ghost |pub ghost |requires\b|ensures\b|invariant\b|#\[tactic)", bare)
-        if bare.startswith("//"):
+        if bare.startswith("//") or not (starts or depth > 0):
             out.append(line)
             continue
-        if starts or inside:
-            out.append(change(line))
-            opened = sum(line.count(c) for c in "{([") - sum(line.count(c) for c in "})]")
-            depth = depth + opened if inside else opened
-            inside = depth > 0
-        else:
-            out.append(line)
+        out.append(change(line))
+        depth = max(depth, 0) + sum(line.count(c) for c in "{([") - sum(line.count(c) for c in "})]")
     return "\n".join(out)
 
 
+def has(text, name, before=""):
+    return re.search(rf"(?<![\w'{before}-]){re.escape(name)}(?![\w'-])", text)
+
+
 def main():
-    top = pathlib.Path(sys.argv[1] if len(sys.argv) > 1 else ".")
+    places = [word for word in sys.argv[1:] if not word.startswith("--")]
+    top = pathlib.Path(places[0] if places else ".")
     names, fields = declared(top)
-    new, clashes = {}, []
+    new, together = {}, []
     for path in files(top, ".antt") + files(top, ".rt") + files(top, ".edit"):
         text = path.read_text()
-        std = std_imports(text)
+        ours = names - std_imports(text)
         modules = set(MODULE.findall(text)) - {"goal"}
-        clash = {n for n in names if re.search(rf"(?<![\w'-]){re.escape(n)}(?![\w'-])", text)
-                 and re.search(rf"(?<![\w'.-]){re.escape(respell(n))}(?![\w'-])", text)}
-        if clash and path.suffix == ".antt":
-            clashes.append(f"{path}: {', '.join(sorted(clash))}")
+
+        def change(line):
+            bare = line if path.suffix != ".antt" else code(line)
+            return respelled(bare, ours, fields, modules) + line[len(bare) :]
+
         if path.suffix == ".antt":
-            lines = []
-            for line in text.split("\n"):
-                bare = code(line)
-                lines.append(respelled(bare, names, fields, std, modules) + line[len(bare):])
-            new[path] = "\n".join(lines)
-        elif path.suffix == ".rt":
-            new[path] = clauses_only(text, lambda line: respelled(line, names, fields, std, modules))
-        else:
-            new[path] = respelled(text, names, fields, set(), modules)
-    for line in clashes:
+            met = sorted(n for n in names if has(text, n) and has(text, respell(n), before="."))
+            together += [f"{path}: {', '.join(met)}"] if met else []
+        new[path] = clauses_only(text, change) if path.suffix == ".rt" else "\n".join(map(change, text.split("\n")))
+    for line in together:
         print("falls together:", line)
-    if clashes and "--force" not in sys.argv:
+    if together and "--force" not in sys.argv:
         return 1
-    changed = 0
-    for path, text in new.items():
-        if text != path.read_text():
-            path.write_text(text)
-            changed += 1
-    print(f"{len(names)} names, {changed} files changed")
+    changed = [path for path, text in new.items() if text != path.read_text()]
+    for path in changed:
+        path.write_text(new[path])
+    print(f"{len(names)} names, {len(changed)} files changed")
     if "--list" in sys.argv:
         print("\n".join(sorted(names)))
     return 0
