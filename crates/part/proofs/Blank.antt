@@ -1,19 +1,17 @@
 -- Zeros are blank parts.
 -- Assumes nothing.
-use Rattle.std.proofs.Common.{◌≡◌, ℕ, ◌+◌, ◌*◌, ◌<◌, ◌≤◌, ltb, List, [], length, get_or, take, drop, replicate, sym, ap, ◌∙◌, arith}
+use Rattle.std.proofs.Common.{◌≡◌, ℕ, cond, ltb, List, [], get_or, replicate, ap, ◌∙◌, arith}
 use mathlib.Core.Path.{fun_ext}
-use Rattle.std.proofs.lemmas.List.{same_lists, length-take-le, length-drop, length-replicate, get_or-take, get_or-drop, get_or-replicate, drop_all}
+use Rattle.std.proofs.lemmas.List.{length-replicate, get_or-replicate, get_or_past}
 use Rattle.std.proofs.lemmas.Bool.{cond_both, ltb-true, ltb-false}
-use Rattle.part.specs.Parts.{part_of, blank}
+use Rattle.part.specs.Parts.{blank}
 
-zeros : (xs : List ℕ) (n a : ℕ) → a + n ≤ length xs → ((k d : ℕ) → k < length xs → get_or xs k d ≡ 0) → take n (drop a xs) ≡ replicate n 0
-zeros xs n a h z =
-    let l : length (take n (drop a xs)) ≡ n = length-take-le n (drop a xs) (omega (arith, length-drop a xs)) in
-    same_lists _ _ (l ∙ sym (length-replicate n 0)) (λ k d lt. get_or-take n (drop a xs) k d (omega arith) ∙ get_or-drop a xs k d ∙ z (a + k) d (omega arith) ∙ sym (get_or-replicate n k 0 d (omega arith)))
+some_of : (n q : ℕ) (z : List ℕ) → get_or (replicate n z) q [] ≡ cond (ltb q n) z []
+some_of n q z =
+    cond_both (ltb q n) z [] (λ x. get_or (replicate n z) q [] ≡ x)
+    (λ h. get_or-replicate n q z [] (ltb-true q n h))
+    (λ h. get_or_past (replicate n z) q [] (omega (arith, ltb-false q n h, length-replicate n z)))
 
-pub all_blank : (xs : List ℕ) → length xs ≡ 16777216 → ((k d : ℕ) → k < length xs → get_or xs k d ≡ 0) → part_of xs ≡ blank
+pub all_blank : (xs : List (List ℕ)) → xs ≡ replicate 16384 (replicate {A = ℕ} 1024 0) → (λ q. get_or xs q []) ≡ blank
 unfolding blank
-all_blank xs e z =
-    fun_ext (λ q. cond_both (ltb q 16384) (replicate 1024 0) [] (λ x. part_of xs q ≡ x)
-    (λ h. zeros xs 1024 (1024 * q) (omega (arith, ltb-true q 16384 h)) z)
-    (λ h. ap (take 1024) (drop_all (1024 * q) xs (omega (arith, ltb-false q 16384 h)))))
+all_blank xs e = fun_ext (λ q. ap (λ (ys : List (List ℕ)). get_or ys q []) e ∙ some_of 16384 q (replicate {A = ℕ} 1024 0))

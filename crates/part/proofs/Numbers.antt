@@ -1,7 +1,7 @@
 -- A list is its first elements and the rest; a number of 32 bits is its four bytes.
 -- Assumes nothing.
 use Rattle.std.proofs.Common.{◌≡◌, ℕ, ◌+◌, ◌*◌, ◌/◌, ◌%◌, ◌<◌, ◌≤◌, List, [], ◌∷◌, ◌++◌, length, get_or, take, drop, sym, refl, ap, ◌∙◌, arith}
-use Rattle.std.proofs.lemmas.List.{drop_more, drop-drop, take-append-drop}
+use Rattle.std.proofs.lemmas.List.{drop_more, drop-drop, take-append-drop, get_or-take, get_or-drop}
 use Rattle.std.proofs.lemmas.Nat.{shr-shr, div-add-mod', div_below}
 use Rattle.part.specs.Bytes.{four, headed}
 
@@ -30,6 +30,16 @@ stand xs k n l b e =
     ap (take 4) (from k (k + 1) _ refl (omega arith) (from (k + 1) (k + 2) _ x (omega arith)
     (from (k + 2) (k + 3) _ y (omega arith) (from (k + 3) (k + 4) _ z (omega arith) refl))))
     ∙ sym (four_of _ _ _ _ n (b k) (b (k + 1)) (b (k + 2)) (b (k + 3)) e)
+
+-- four bytes cut out at a place are those of the number that they make
+pub cut : (xs ys : List ℕ) (k n : ℕ) → k + 4 ≤ length xs → ((i : ℕ) → get_or xs i 0 < 256) → ys ≡ take 4 (drop k xs)
+    → n ≡ get_or ys 0 0 * 16777216 + get_or ys 1 0 * 65536 + get_or ys 2 0 * 256 + get_or ys 3 0 → take 4 (drop k xs) ≡ four n
+cut xs ys k n l b e h =
+    let at : (i : ℕ) → i < 4 → get_or ys i 0 ≡ get_or xs (k + i) 0 =
+    λ i lt. ap (λ (zs : List ℕ). get_or zs i 0) e ∙ get_or-take 4 (drop k xs) i 0 lt ∙ get_or-drop k xs i 0 in
+    let z : k + 0 ≡ k = omega arith in
+    let a : get_or ys 0 0 ≡ get_or xs k 0 = at 0 (omega arith) ∙ ap (λ (i : ℕ). get_or xs i 0) z in
+    stand xs k n l b (h ∙ rw (a, at 1 (omega arith), at 2 (omega arith), at 3 (omega arith)) refl)
 
 -- bytes that begin with a head are that head and what follows
 pub head_is : (xs : List ℕ) (w q n : ℕ) → 7 ≤ length xs → w ≡ get_or xs 0 0 → q ≡ 256 * get_or xs 1 0 + get_or xs 2 0 → get_or xs 2 0 < 256

@@ -1,13 +1,13 @@
 -- What writes at a place leave: of some bytes, and of the parts of the files.
 -- Assumes nothing.
-use Rattle.std.proofs.Common.{◌≡◌, ℕ, ◌+◌, ◌-◌, ◌*◌, ◌<◌, ◌≤◌, Bool, cond, eqb, leb, List, [], ◌∷◌, ◌++◌, length, take, drop, set, sym, refl, ap, ◌∙◌, inl, inr, add-one, arith}
+use Rattle.std.proofs.Common.{◌≡◌, ℕ, ◌+◌, ◌<◌, ◌≤◌, Bool, cond, eqb, get_or, leb, List, [], ◌∷◌, ◌++◌, length, drop, set, sym, refl, ap, ◌∙◌, inl, inr, add-one}
 use mathlib.Core.Path.{fun_ext}
 use borrow.Rule.Slice.PartMut.{put_mid}
-use Rattle.std.proofs.lemmas.List.{length-take-le, length-drop, drop-append-le, take-append-le, take-take, drop_at, take_at, drop-drop, set_split, append_assoc}
-use Rattle.std.proofs.lemmas.Slice.{between_is, drop-put_mid}
-use Rattle.std.proofs.lemmas.Bool.{cases_order, eq-eqb, ne_eqb, cond-true, cond-false, le-leb}
+use Rattle.std.proofs.lemmas.List.{drop_at, take_at, drop-drop, set_split, append_assoc, get_or-set_other}
+use Rattle.std.proofs.lemmas.Grind.{get_or-set_at}
+use Rattle.std.proofs.lemmas.Bool.{cases_eq, eq-eqb, ne_eqb, cond-true, cond-false, le-leb}
 use Rattle.part.specs.Bytes.{placed}
-use Rattle.part.specs.Parts.{part_of, at_1}
+use Rattle.part.specs.Parts.{at_1}
 
 -- what a write to a slice of some bytes leaves
 pub put_mid_is : (a k : ℕ) (xs ys zs : List ℕ) → ys ≡ zs → length zs ≡ k → put_mid a k xs ys ≡ placed a zs xs
@@ -30,36 +30,14 @@ pub next : (k j : ℕ) (f out ys zs was : List ℕ) → length f ≡ k → lengt
     → out ≡ (f ++ zs) ++ drop (k + j) ys
 next k j f out ys zs was l m e o = o ∙ ap (λ (q : List ℕ). placed k zs q) e ∙ placed_on k f ys zs l ∙ rw m refl
 
-module _ (xs ys : List ℕ) (k q : ℕ) (ke : k ≡ 1024) (fits : 1024 * q + 1024 ≤ length xs) (long : length ys ≡ 1024) where
-  here : part_of (put_mid (1024 * q) k xs ys) q ≡ ys
-  here =
-      let e : length (take (1024 * q) xs) ≡ 1024 * q = length-take-le (1024 * q) xs (omega arith) in
-      ap (take 1024) (drop_at (take (1024 * q) xs) _ (1024 * q) e) ∙ take_at ys _ 1024 long
-
-  below : (p : ℕ) → p < q → part_of (put_mid (1024 * q) k xs ys) p ≡ part_of xs p
-  below p h =
-      let e : length (take (1024 * q) xs) ≡ 1024 * q = length-take-le (1024 * q) xs (omega arith) in
-      let d : length (drop (1024 * p) (take (1024 * q) xs)) ≡ 1024 * q - 1024 * p = length-drop (1024 * p) (take (1024 * q) xs) ∙ ap (λ n. n - 1024 * p) e in
-      ap (take 1024) (drop-append-le (1024 * p) (take (1024 * q) xs) _ (omega (arith, e)))
-      ∙ take-append-le 1024 (drop (1024 * p) (take (1024 * q) xs)) _ (omega (arith, d))
-      ∙ ap (take 1024) (sym (between_is xs (1024 * p) (1024 * q)))
-      ∙ take-take 1024 (1024 * q - 1024 * p) (drop (1024 * p) xs) (omega arith)
-
-  above : (p : ℕ) → q < p → part_of (put_mid (1024 * q) k xs ys) p ≡ part_of xs p
-  above p h = ap (take 1024) (drop-put_mid (1024 * q) k xs ys (1024 * p) (omega arith) (omega arith) (long ∙ sym ke))
-
-  part_at : (p : ℕ) → part_of (put_mid (1024 * q) k xs ys) p ≡ at_1 q ys (part_of xs) p
-  part_at p =
-      elim (cases_order p q) [
-        | inl e ↦ ap (part_of (put_mid (1024 * q) k xs ys)) e ∙ here ∙ sym (cond-true (eqb p q) ys (part_of xs p) (eq-eqb p q e))
-        | inr o ↦ elim o [
-          | inl h ↦ below p h ∙ sym (cond-false (eqb p q) ys (part_of xs p) (ne_eqb p q (λ e. omega arith)))
-          | inr h ↦ above p h ∙ sym (cond-false (eqb p q) ys (part_of xs p) (ne_eqb p q (λ e. omega arith)))
-        ]
-      ]
-
-  pub part_put : part_of (put_mid (1024 * q) k xs ys) ≡ at_1 q ys (part_of xs)
-  part_put = fun_ext part_at
+-- one of some values in a row written: that is there now, and each other is as it was
+pub at_1_set : {X : Type 0} (xs : List X) (q : ℕ) (v d : X) → q < length xs
+    → (λ p. get_or (set xs q v) p d) ≡ at_1 q v (λ p. get_or xs p d)
+at_1_set xs q v d l =
+    fun_ext (λ p. elim (cases_eq p q) [
+      | inl e ↦ get_or-set_at xs q p v d e l ∙ sym (cond-true (eqb p q) v (get_or xs p d) (eq-eqb p q e))
+      | inr ne ↦ get_or-set_other xs q p v d ne ∙ sym (cond-false (eqb p q) v (get_or xs p d) (ne_eqb p q ne))
+    ])
 
 -- a write that has room is done
 pub there : {X : Type 0} (r : Bool) (m n : ℕ) (y a b : X) → r ≡ leb m n → m ≤ n → y ≡ cond r a b → y ≡ a

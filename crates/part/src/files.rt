@@ -2,9 +2,9 @@ ghost use Rattle.std.specs.Prelude.{◌≡◌, vec_len};
 
 pub mod parts;
 
-/// The bytes of all parts of all files, one after another.
+/// The bytes of all parts of all files, one part after another.
 #[derive(Drop)]
 pub struct Files {
-    bytes: Vec<u8>,
-    ghost size: { vec_len bytes ≡ 16777216 },
+    parts: Vec<[u8; 1024]>,
+    ghost size: { vec_len parts ≡ 16384 },
 }

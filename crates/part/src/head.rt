@@ -7,7 +7,7 @@ use crate::place::Place;
 use crate::who::Who;
 
 /// What most messages and records begin with, after their first byte: a borrower, a part and a number.
-#[derive(Clone, Copy)]
+#[derive(Clone, Copy, Debug, PartialEq, Eq)]
 pub struct Head {
     pub who: Who,
     pub place: Place,
@@ -22,19 +22,15 @@ impl Head {
         let [who, file, part, ..] = bytes else {
             return None;
         };
-        let Some(number) = number_at(bytes, 3) else {
-            return None;
-        };
-        let Some(who) = Who::new(*who) else {
-            return None;
-        };
-        let Some(place) = Place::new(*file, *part) else {
-            return None;
-        };
-        Some(Head { who, place, number })
+        Some(Head {
+            who: Who::new(*who)?,
+            place: Place::new(*file, *part)?,
+            number: number_at(bytes, 3)?,
+        })
     }
 
     /// Writes a first byte and the head at the front; false, and nothing is written, where there is no room.
+    // A `bool` stays: every caller has made room, so that an error would only be thrown away at each call.
     pub fn put(self, first: u8, out: &mut [u8]) -> bool
         ensures named { Named self.who.id self.place.at self.number }
         ensures fits { result ≡ nat_le 8 (length out.old) }

@@ -9,5 +9,5 @@ returns c =
     record {
       small = search rules;
       fits = sym (le-leb _ _ (omega arith));
-      after = put_mid_is c.args.at _ _ _ (four c.args.number) (c.copy_from_slice.ensures.after ∙ c.to_be_bytes-four.ensures) (omega arith);
+      after = put_mid_is c.args.at _ _ _ (four c.args.number) (c.copy_from_slice.ensures.after ∙ c.to_be_bytes.ensures) (omega arith);
     }
