@@ -1,6 +1,7 @@
 -- What the readers of one first byte each share.
 -- Assumes nothing.
-use Rattle.std.proofs.Common.{◌≡◌, ℕ, suc, ◌+◌, ◌-◌, ◌*◌, ◌/◌, ◌%◌, ◌<◌, ◌≤◌, List, [], ◌∷◌, length, get_or, take, drop, Ok, Err, Result, sym, refl, ap, ◌∙◌, arith}
+use Rattle.std.proofs.Common.{◌≡◌, ℕ, suc, ◌+◌, ◌-◌, ◌*◌, ◌/◌, ◌%◌, ◌<◌, ◌≤◌, List, [], ◌∷◌, length, get_or, take, drop, Ok, Err, Result, sym, refl, ap, ◌∙◌, arith, Some, None, Option, ok_or}
+use Rattle.std.specs.Result.{result_ok}
 use Rattle.std.proofs.lemmas.List.{drop_all, take_all, length-drop}
 use Rattle.std.proofs.lemmas.Slice.{first_rest}
 use Rattle.part.specs.Bytes.{four, headed, Named}
@@ -8,6 +9,8 @@ use Rattle.part.proofs.Numbers.{peel}
 use Rattle.message.specs.declared.form.Malformed.{Malformed}
 use Rattle.message.specs.declared.form.Message.{Message}
 use Rattle.message.specs.declared.form.Message.TheVariants as code
+use Rattle.message.specs.declared.kind.Kind.{Kind}
+use Rattle.message.specs.Kinds.{kind_byte, KindOf}
 use Rattle.message.specs.Format.{Msg, Ask, Loan, Write, In, Void, Recall, Back, said, carried, tag, body, WellFormed, Decoded, DecodedBody, NotOnly}
 
 -- every message but a recall begins with a head
@@ -30,6 +33,11 @@ not_only t ys h l k (In w q n) f g e = h w q n f e
 not_only t ys h l k (Void w q n) f g e = h w q n f e
 not_only t ys h l k (Recall w q) f g e = k (sym g)
 not_only t ys h l k (Back w q n) f g e = h w q n f e
+
+-- a kind that was made of a byte stands for it
+pub kind_is : (b : ℕ) (r : Result Kind Malformed) (k : Kind) → KindOf b r → Some k ≡ result_ok r → kind_byte k ≡ b
+kind_is b (Ok x) k h e = let f : k ≡ x = cc in ap kind_byte f ∙ h
+kind_is b (Err x) k h e = absurd (cc)
 
 -- a head with what follows it
 pub ends : (w q n : ℕ) (ys more : List ℕ) → headed w q n (drop 7 ys) ≡ ys → drop 7 ys ≡ more → headed w q n more ≡ ys
@@ -66,7 +74,7 @@ carried_more t ys l =
     ap (λ (i : ℕ). drop i (t ∷ ys)) e
 
 same_said : (t : ℕ) (ys : List ℕ) (m : Message) → WellFormed (said (carried ys) m) → said (carried (t ∷ ys)) m ≡ said (carried ys) m
-same_said t ys (code.Ask h k l) f = refl
+same_said t ys (code.Ask a) f = refl
 same_said t ys (code.Loan h k) f = ap (λ (v : List ℕ). Loan h.who.id h.place.at h.number k v) (carried_more t ys f.1)
 same_said t ys (code.Write h) f = ap (λ (v : List ℕ). Write h.who.id h.place.at h.number v) (carried_more t ys f.1)
 same_said t ys (code.In h) f = refl
@@ -74,11 +82,11 @@ same_said t ys (code.Void h) f = refl
 same_said t ys (code.Recall w p) f = refl
 same_said t ys (code.Back h) f = refl
 
-from_body : (t : ℕ) (ys : List ℕ) (r : Result Message Malformed) → DecodedBody t ys r → Decoded (t ∷ ys) r
-from_body t ys (Ok m) (f, g, h) = rw (same_said t ys m f) (f, cc)
-from_body t ys (Err x) none = λ m f e. none m f (ap (λ (q : List ℕ). get_or q 0 0) e) (ap (λ (q : List ℕ). drop 1 q) e)
+from_body : (t : ℕ) (ys : List ℕ) (o : Option Message) → DecodedBody t ys o → Decoded (t ∷ ys) (ok_or o (record {}))
+from_body t ys (Some m) (f, g, h) = rw (same_said t ys m f) (f, cc)
+from_body t ys None none = λ m f e. none m f (ap (λ (q : List ℕ). get_or q 0 0) e) (ap (λ (q : List ℕ). drop 1 q) e)
 
 -- the bytes after the first, as the reader cuts them off
-pub decoded : (xs : List ℕ) (t : ℕ) (r : Result Message Malformed) → 0 < length xs → get_or xs 0 0 ≡ t
-    → DecodedBody t (take (length xs - 1) (drop 1 xs)) r → Decoded xs r
-decoded xs t r l e d = rw (first_rest xs 0 l, e) (from_body t (take (length xs - 1) (drop 1 xs)) r d)
+pub decoded : (xs : List ℕ) (o : Option Message) → 0 < length xs
+    → DecodedBody (get_or xs 0 0) (take (length xs - 1) (drop 1 xs)) o → Decoded xs (ok_or o (record {}))
+decoded xs o l d = rw (first_rest xs 0 l) (from_body (get_or xs 0 0) (take (length xs - 1) (drop 1 xs)) o d)

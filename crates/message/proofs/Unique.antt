@@ -43,7 +43,7 @@ long (Back w q n) f = refl
 
 -- the size of a message of the code
 pub sized : (v : List ℕ) (m : Message) → length v ≡ 1024 → size_of m ≡ length (layout (said v m))
-sized v (code.Ask h k l) e = refl
+sized v (code.Ask a) e = refl
 sized v (code.Loan h k) e = omega arith
 sized v (code.Write h) e = omega arith
 sized v (code.In h) e = refl
@@ -52,7 +52,7 @@ sized v (code.Recall w p) e = refl
 sized v (code.Back h) e = refl
 
 pub most : (m : Message) → size_of m ≤ 1033
-most (code.Ask h k l) = lit≤ tt
+most (code.Ask a) = lit≤ tt
 most (code.Loan h k) = lit≤ tt
 most (code.Write h) = lit≤ tt
 most (code.In h) = lit≤ tt

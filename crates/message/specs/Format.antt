@@ -21,7 +21,7 @@ pub data Msg : Type 0 where
 
 -- what a message of the code says, with the bytes v of the part that stand beside it
 abbrev pub said : (v : List ℕ) → Message → Msg
-said v (code.Ask h k l) = Ask h.who.id h.place.at h.number k l
+said v (code.Ask a) = Ask a.head.who.id a.head.place.at a.head.number a.kind a.written
 said v (code.Loan h k) = Loan h.who.id h.place.at h.number k v
 said v (code.Write h) = Write h.who.id h.place.at h.number v
 said v (code.In h) = In h.who.id h.place.at h.number
@@ -68,7 +68,7 @@ WellFormed (Back w q n) = Named w q n
 
 -- the part that a message is about
 abbrev pub place_of : Message → ℕ
-place_of (code.Ask h k l) = h.place.at
+place_of (code.Ask a) = a.head.place.at
 place_of (code.Loan h k) = h.place.at
 place_of (code.Write h) = h.place.at
 place_of (code.In h) = h.place.at
@@ -78,7 +78,7 @@ place_of (code.Back h) = h.place.at
 
 -- how many bytes a message has
 abbrev pub size_of : Message → ℕ
-size_of (code.Ask h k l) = 13
+size_of (code.Ask a) = 13
 size_of (code.Loan h k) = 1033
 size_of (code.Write h) = 1032
 size_of (code.In h) = 8
@@ -92,9 +92,9 @@ Decoded xs (Ok m) = WellFormed (said (carried xs) m) × (layout (said (carried x
 Decoded xs (Err e) = (m : Msg) → WellFormed m → layout m ≢ xs
 
 -- the same of the messages with one first byte, by the bytes after it
-abbrev pub DecodedBody : (first : ℕ) → List ℕ → Result Message Malformed → Type 0
-DecodedBody t ys (Ok m) = WellFormed (said (carried ys) m) × (tag (said (carried ys) m) ≡ t) × (body (said (carried ys) m) ≡ ys)
-DecodedBody t ys (Err e) = (m : Msg) → WellFormed m → tag m ≡ t → body m ≢ ys
+abbrev pub DecodedBody : (first : ℕ) → List ℕ → Option Message → Type 0
+DecodedBody t ys (Some m) = WellFormed (said (carried ys) m) × (tag (said (carried ys) m) ≡ t) × (body (said (carried ys) m) ≡ ys)
+DecodedBody t ys None = (m : Msg) → WellFormed m → tag m ≡ t → body m ≢ ys
 
 -- the bytes are a head with nothing behind it
 abbrev pub Only : List ℕ → Head → Type 0

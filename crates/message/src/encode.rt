@@ -14,19 +14,15 @@ pub fn encode(message: &Message, part: &[u8; 1024], out: &mut [u8]) -> Option<us
         return None;
     }
     match message {
-        Message::Ask {
-            head,
-            kind,
-            written,
-        } => {
-            head.put(1, out);
-            out[8] = kind.byte();
-            put_number(out, 9, *written);
+        Message::Ask(ask) => {
+            ask.head.put(1, out);
+            out[8] = u8::from(ask.kind);
+            put_number(out, 9, ask.written);
             Some(13)
         }
         Message::Loan { head, kind } => {
             head.put(2, out);
-            out[8] = kind.byte();
+            out[8] = u8::from(*kind);
             out[9..1033].copy_from_slice(part);
             Some(1033)
         }

@@ -6,21 +6,22 @@ use part::head::Head;
 use part::place::Place;
 use part::who::Who;
 
+/// What a borrower asks for: a part, for reading or for writing. `written` is the number of its last write of the part.
+#[derive(Clone, Copy, Debug, PartialEq, Eq)]
+pub struct Ask {
+    pub head: Head,
+    pub kind: Kind,
+    pub written: u32,
+}
+
 /// A message. The 1,024 bytes of a part that a loan or a write carries stand beside it:
 /// in the bytes that it was read from, or in the part that is lent where it is written.
-#[derive(Clone, Copy)]
+#[derive(Clone, Copy, Debug, PartialEq, Eq)]
 pub enum Message {
-    /// a borrower asks for a part; `written` is the number of its last write of the part
-    Ask {
-        head: Head,
-        kind: Kind,
-        written: u32,
-    },
+    /// a borrower asks for a part
+    Ask(Ask),
     /// the keeper lends a part, under the number of the ask
-    Loan {
-        head: Head,
-        kind: Kind,
-    },
+    Loan { head: Head, kind: Kind },
     /// a borrower writes a part
     Write(Head),
     /// the write of this number is applied
@@ -28,16 +29,13 @@ pub enum Message {
     /// the write of this number is void
     Void(Head),
     /// the keeper wants a part back
-    Recall {
-        who: Who,
-        place: Place,
-    },
+    Recall { who: Who, place: Place },
     /// a borrower gives back what it was lent for asks up to this number
     Back(Head),
 }
 
 /// Bytes that are no message.
-#[derive(Clone, Copy)]
+#[derive(Clone, Copy, Debug, PartialEq, Eq)]
 pub struct Malformed;
 
 impl Message {
@@ -46,13 +44,11 @@ impl Message {
         ensures { result ≡ size_of self.now }
     {
         match self {
-            Message::Ask { .. } => 13,
+            Message::Ask(_) => 13,
             Message::Loan { .. } => 1033,
             Message::Write(_) => 1032,
-            Message::In(_) => 8,
-            Message::Void(_) => 8,
+            Message::In(_) | Message::Void(_) | Message::Back(_) => 8,
             Message::Recall { .. } => 4,
-            Message::Back(_) => 8,
         }
     }
 
@@ -61,13 +57,13 @@ impl Message {
         ensures { result.at ≡ place_of self }
     {
         match self {
-            Message::Ask { head, .. } => head.place,
-            Message::Loan { head, .. } => head.place,
-            Message::Write(head) => head.place,
-            Message::In(head) => head.place,
-            Message::Void(head) => head.place,
+            Message::Ask(ask) => ask.head.place,
+            Message::Loan { head, .. }
+            | Message::Write(head)
+            | Message::In(head)
+            | Message::Void(head)
+            | Message::Back(head) => head.place,
             Message::Recall { place, .. } => place,
-            Message::Back(head) => head.place,
         }
     }
 }

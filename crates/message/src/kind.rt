@@ -1,42 +1,42 @@
-ghost use Rattle.std.specs.Prelude.{◌≡◌, ◌≤◌, MatchOption};
-ghost use Rattle.message.specs.Kinds.{kind_byte, writes};
+ghost use Rattle.std.specs.Prelude.{◌≡◌};
+ghost use Rattle.message.specs.Kinds.{kind_byte, writes, KindOf};
 
-/// What a part is lent for.
-#[derive(Clone, Copy)]
+use crate::form::Malformed;
+
+/// What a part is lent for. The numbers are the bytes of a message that stand for the kinds.
+#[derive(Clone, Copy, Debug, PartialEq, Eq)]
 pub enum Kind {
-    Reading,
-    Writing,
+    Reading = 0,
+    Writing = 1,
+}
+
+impl TryFrom<u8> for Kind {
+    type Error = Malformed;
+
+    ghost try_from_gives = { KindOf };
+
+    fn try_from(byte: u8) -> Result<Kind, Malformed> {
+        match byte {
+            0 => Ok(Kind::Reading),
+            1 => Ok(Kind::Writing),
+            2..=255 => Err(Malformed),
+        }
+    }
+}
+
+impl From<Kind> for u8 {
+    ghost from_gives = { λ k b. b ≡ kind_byte k };
+
+    fn from(kind: Kind) -> u8 {
+        kind as u8
+    }
 }
 
 impl Kind {
-    /// The kind that a byte of a message stands for: 0 reading, 1 writing, any other none.
-    pub fn of(byte: u8) -> Option<Kind>
-        ensures { MatchOption result (2 ≤ byte) (λ k. kind_byte k ≡ byte) }
-    {
-        match byte {
-            0 => Some(Kind::Reading),
-            1 => Some(Kind::Writing),
-            2..=255 => None,
-        }
-    }
-
-    /// The byte of a message that stands for it.
-    pub fn byte(self) -> u8
-        ensures { result ≡ kind_byte self }
-    {
-        match self {
-            Kind::Reading => 0,
-            Kind::Writing => 1,
-        }
-    }
-
     /// Whether it lets the borrower write.
     pub fn is_writing(self) -> bool
         ensures { result ≡ writes self }
     {
-        match self {
-            Kind::Reading => false,
-            Kind::Writing => true,
-        }
+        matches!(self, Kind::Writing)
     }
 }

@@ -1,27 +1,27 @@
 ghost use Rattle.std.specs.Prelude.{◌≡◌};
 ghost use Rattle.message.specs.Refusals.{refusal_number};
 
-/// Why a message, a call or a line is refused. A refusal changes nothing.
-#[derive(Clone, Copy)]
+/// Why a message, a call or a line is refused, with the number that is printed. A refusal changes nothing.
+#[derive(Clone, Copy, Debug, PartialEq, Eq)]
 pub enum Refusal {
     /// no message or line of any form, or one that is not for this receiver
-    Malformed,
+    Malformed = 1,
     /// no copy that is valid
-    NoCopy,
+    NoCopy = 2,
     /// the copy is for reading
-    ReadOnly,
+    ReadOnly = 3,
     /// a copy is held already
-    HoldsCopy,
+    HoldsCopy = 4,
     /// the loan answers another ask than the last
-    OtherAsk,
+    OtherAsk = 5,
     /// the keeper is in its grace period
-    Quiet,
+    Quiet = 6,
     /// a lease of another borrower bars it
-    Barred,
+    Barred = 7,
     /// no lease for writing runs, or the write's number is applied or void already
-    NotApplied,
+    NotApplied = 8,
     /// the table of leases is full, or a number or a clock would pass its bytes
-    Exhausted,
+    Exhausted = 9,
 }
 
 impl Refusal {
@@ -29,16 +29,6 @@ impl Refusal {
     pub fn number(self) -> u8
         ensures { result ≡ refusal_number self }
     {
-        match self {
-            Refusal::Malformed => 1,
-            Refusal::NoCopy => 2,
-            Refusal::ReadOnly => 3,
-            Refusal::HoldsCopy => 4,
-            Refusal::OtherAsk => 5,
-            Refusal::Quiet => 6,
-            Refusal::Barred => 7,
-            Refusal::NotApplied => 8,
-            Refusal::Exhausted => 9,
-        }
+        self as u8
     }
 }

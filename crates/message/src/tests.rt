@@ -1,7 +1,7 @@
 // A damaged message of every kind is refused: cut at each byte, one byte too long, and with each field out of range.
 use crate::decode::{carried_part, decode};
 use crate::encode::encode;
-use crate::form::{Malformed, Message};
+use crate::form::{Ask, Malformed, Message};
 use crate::kind::Kind;
 use crate::refusal::Refusal;
 use part::head::Head;
@@ -10,11 +10,9 @@ use part::who::Who;
 use std::test::Fail;
 
 fn head() -> Option<Head> {
-    let who = Who::new(31)?;
-    let place = Place::new(63, 255)?;
     Some(Head {
-        who,
-        place,
+        who: Who::new(31)?,
+        place: Place::new(63, 255)?,
         number: 0xfedc_ba98,
     })
 }
@@ -22,11 +20,11 @@ fn head() -> Option<Head> {
 // One message of each kind, with the greatest numbers that its fields take.
 fn samples(head: Head) -> [Message; 7] {
     [
-        Message::Ask {
+        Message::Ask(Ask {
             head,
             kind: Kind::Writing,
             written: 4294967295,
-        },
+        }),
         Message::Loan {
             head,
             kind: Kind::Reading,
@@ -44,10 +42,7 @@ fn samples(head: Head) -> [Message; 7] {
 
 // Whether the bytes are refused, and by 1.
 fn refused(bytes: &[u8]) -> bool {
-    match decode(bytes) {
-        Ok(_) => false,
-        Err(Malformed) => Refusal::Malformed.number() == 1,
-    }
+    decode(bytes) == Err(Malformed) && Refusal::Malformed.number() == 1
 }
 
 // Whether a byte that is changed to this one makes the message none.
@@ -61,19 +56,12 @@ fn refused_with(out: &[u8; 1033], size: usize, at: usize, byte: u8) -> bool {
 }
 
 fn cut_everywhere(out: &[u8; 1033], size: usize) -> bool {
-    for n in 0..size.min(1033) {
-        if !refused(&out[0..n]) {
-            return false;
-        }
-    }
-    true
+    (0..size.min(1033)).all(|n| refused(&out[0..n]))
 }
 
 #[test]
 fn damaged_messages_are_refused(rt: HostRuntime) -> Result<(), Fail> {
-    let Some(head) = head() else {
-        return Err(Fail::new("no head"));
-    };
+    let head = head().ok_or("no head")?;
     let part = [7u8; 1024];
     for message in samples(head) {
         let mut out = [0u8; 1033];
@@ -96,16 +84,14 @@ fn refused_longer(out: &[u8; 1033], size: usize) -> bool {
 
 #[test]
 fn a_kind_is_0_or_1(rt: HostRuntime) -> Result<(), Fail> {
-    let Some(head) = head() else {
-        return Err(Fail::new("no head"));
-    };
+    let head = head().ok_or("no head")?;
     let part = [7u8; 1024];
     for message in [
-        Message::Ask {
+        Message::Ask(Ask {
             head,
             kind: Kind::Writing,
             written: 0,
-        },
+        }),
         Message::Loan {
             head,
             kind: Kind::Reading,
@@ -123,15 +109,13 @@ fn a_kind_is_0_or_1(rt: HostRuntime) -> Result<(), Fail> {
 
 #[test]
 fn the_bytes_of_an_ask(rt: HostRuntime) -> Result<(), Fail> {
-    let Some(head) = head() else {
-        return Err(Fail::new("no head"));
-    };
+    let head = head().ok_or("no head")?;
     let mut out = [0u8; 14];
-    let ask = Message::Ask {
+    let ask = Message::Ask(Ask {
         head,
         kind: Kind::Writing,
         written: 258,
-    };
+    });
     assert_eq!(rt; encode(&ask, &[0; 1024], &mut out), Some(13));
     assert_eq!(rt;
         out,
@@ -143,9 +127,7 @@ fn the_bytes_of_an_ask(rt: HostRuntime) -> Result<(), Fail> {
 
 #[test]
 fn a_write_carries_its_part(rt: HostRuntime) -> Result<(), Fail> {
-    let Some(head) = head() else {
-        return Err(Fail::new("no head"));
-    };
+    let head = head().ok_or("no head")?;
     let mut part = [0u8; 1024];
     part[0] = 1;
     part[1023] = 2;

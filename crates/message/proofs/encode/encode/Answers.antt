@@ -14,8 +14,8 @@ returns-in-Ask c =
     let s = ap (said c.args.part.now) i.is in
     record {
       formed = λ _. rw s (p.named, q.small);
-      wrote = ask_wrote i.head.who.id i.head.place.at i.head.number xs _ (there _ _ _ _ _ _ p.fits (omega arith) p.after)
-          i.kind i.written _ _ _ s l c.byte.ensures (there _ _ _ _ _ _ q.fits (search rules) q.after);
+      wrote = ask_wrote i.ask.head.who.id i.ask.head.place.at i.ask.head.number xs _ (there _ _ _ _ _ _ p.fits (omega arith) p.after)
+          i.ask.kind i.ask.written _ _ _ s l c.from.ensures (there _ _ _ _ _ _ q.fits (search rules) q.after);
     }
 
 pub returns-in-Loan : goal.returns-in-Loan
@@ -29,7 +29,7 @@ returns-in-Loan c =
     record {
       formed = λ _. rw s (p.named, lv);
       wrote = loan_wrote i.head.who.id i.head.place.at i.head.number xs _ (there _ _ _ _ _ _ p.fits (omega arith) p.after)
-          i.kind c.args.part.now _ _ _ s l lv c.byte-in-Loan.ensures
+          i.kind c.args.part.now _ _ _ s l lv c.from-in-Loan.ensures
           (put_mid_is 9 _ _ _ c.args.part.now c.copy_from_slice.ensures.after lv);
     }
 

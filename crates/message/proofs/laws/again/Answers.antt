@@ -10,9 +10,11 @@ front_is n out lay rest e l = ap (λ (q : List ℕ). take (n - 0) q) e ∙ take_
 pub returns : goal.returns
 returns c =
     let m = said c.args.part.now c.args.message.now in
-    let w = c.in-Some.ensures in
+    let w = rw c.in_ok-size.ensures.ok_part at c.encode.ensures in
     let P : List ℕ → Type 0 = λ q. Decoded q c.decode.result in
     exact m (w.formed refl) c.decode.result (subst P (front_is _ _ (layout m) _ w.wrote.1 w.wrote.0) c.decode.ensures.exact)
 
-pub returns-in_default : goal.returns-in_default
-returns-in_default c = omega (arith, c.in_default.ensures.wrote.0, sized c.args.part.now c.args.message.now c.told-part, most c.args.message.now)
+pub returns-in_err-size : goal.returns-in_err-size
+returns-in_err-size c =
+    let w = rw c.in_err-size.ensures.ok_part at c.encode.ensures in
+    absurd (omega (arith, w.wrote.0, sized c.args.part.now c.args.message.now c.told-part, most c.args.message.now))
