@@ -1,7 +1,7 @@
 -- What the readers show: of one first byte each, at a place, and of a whole journal.
 -- Assumes nothing.
-use Rattle.std.proofs.Common.{◌≡◌, ℕ, ◌+◌, ◌-◌, ◌*◌, ◌/◌, ◌%◌, ◌<◌, ◌≤◌, List, [], ◌∷◌, ◌++◌, length, get_or, take, drop, Ok, Err, sym, refl, ap, ◌∙◌, subst, arith}
-use Rattle.std.proofs.lemmas.List.{length-take-le, length-drop, length-append, drop-take, drop-drop, take-append-drop, drop_all, drop_at, take_rest, append-nil}
+use Rattle.std.proofs.Common.{◌≡◌, ℕ, ◌+◌, ◌-◌, ◌*◌, ◌/◌, ◌%◌, ◌<◌, ◌≤◌, List, [], ◌∷◌, ◌++◌, length, get_or, take, drop, Ok, Err, Result, IsErr, Some, None, Option, sym, refl, ap, ◌∙◌, subst, arith}
+use Rattle.std.proofs.lemmas.List.{length-take-le, length-drop, length-append, drop-take, drop-drop, take-append-drop, drop_at, take_rest, append-nil}
 use Rattle.part.specs.Bytes.{four, headed}
 use Rattle.part.proofs.Numbers.{peel}
 use Rattle.std.proofs.lemmas.Slice.{first_rest}
@@ -9,8 +9,9 @@ use Rattle.message.specs.Format.{carried}
 use Rattle.journal.specs.declared.record.Owner.{Owner}
 use Rattle.journal.specs.declared.record.Record.{Record}
 use Rattle.journal.specs.declared.record.Record.TheVariants as code
-use Rattle.journal.specs.declared.read.Next.{Next}
-use Rattle.journal.specs.declared.read.Next.TheVariants as answer
+use Rattle.journal.specs.declared.read.Entry.{Entry}
+use Rattle.message.specs.declared.form.Malformed.{Malformed}
+use Rattle.std.specs.Result.{result_unwrap_or}
 use Rattle.journal.specs.Records.{Rec, Applied, layout, Sound, Torn, NoRecord, bytes_of, records_of, rest_of}
 use Rattle.journal.specs.Reading.{ending, Standing, Stands, Cut, Refused, Judged}
 use Rattle.journal.specs.Laws.{TornIsCut, CutOnce}
@@ -49,7 +50,7 @@ numbers_is ys q a w l e b f g =
     rw (p, r) (ap (λ (v : List ℕ). 10 ∷ v) u ∙ ap (λ (v : List ℕ). 10 ∷ get_or ys 0 0 ∷ get_or ys 1 0 ∷ (four a ++ v)) (sym s))
 
 -- the reader of one first byte, as the bytes are cut for it
-pub from_body : (o p : Owner) (xs : List ℕ) (t : ℕ) (r : Next) → o ≡ p → 0 < length xs → get_or xs 0 0 ≡ t
+pub from_body : (o p : Owner) (xs : List ℕ) (t : ℕ) (r : Result (Option Entry) Malformed) → o ≡ p → 0 < length xs → get_or xs 0 0 ≡ t
     → Stands p 0 (t ∷ take (length xs - 1) (drop 1 xs)) r → Stands o 0 xs r
 from_body o p xs t r e l f h =
     let P : List ℕ → Type 0 = λ ys. Stands o 0 ys r in
@@ -86,15 +87,22 @@ whole_at o bs at end r h =
       is = s.is ∙ ap (λ (m : Rec). layout m ++ drop end (drop at bs)) e ∙ ap (λ (q : List ℕ). layout (ending bs (at + end) r) ++ q) (drop-drop end at bs);
     }
 
--- the answers that no place stands in
-pub torn_past : (o : Owner) (bs : List ℕ) (at : ℕ) → length bs ≤ at → Torn o (drop at bs)
-torn_past o bs at l = let P : List ℕ → Type 0 = Torn o in subst P (sym (drop_all at bs l)) tt
+-- the reader of the bytes from a place on, as they are cut for it
+pub from_place : (o : Owner) (bs : List ℕ) (at : ℕ) (r : Result (Option Entry) Malformed) → Stands o 0 (take (length bs - at) (drop at bs)) r → Stands o 0 (drop at bs) r
+from_place o bs at r h = let P : List ℕ → Type 0 = λ xs. Stands o 0 xs r in subst P (take_rest bs at) h
 
-pub torn_at : (o : Owner) (bs : List ℕ) (at : ℕ) → Stands o 0 (take (length bs - at) (drop at bs)) answer.Torn → Stands o at bs answer.Torn
-torn_at o bs at h = let P : List ℕ → Type 0 = λ xs. Stands o 0 xs answer.Torn in subst P (take_rest bs at) h
+-- one that passes over what is no record: a record that it gives stands there, and where it gives none there is none
+pub given : (o : Owner) (bs : List ℕ) (at : ℕ) (r : Result (Option Entry) Malformed) (e : Entry) → Stands o at bs r → Some e ≡ result_unwrap_or r None
+    → Standing o at bs e.«record» e.end
+given o bs at (Ok (Some x)) e h q = let P : Entry → Type 0 = λ y. Standing o at bs y.«record» y.end in let f : x ≡ e = cc in subst P f h
+given o bs at (Ok None) e h q = absurd (cc)
+given o bs at (Err x) e h q = absurd (cc)
 
-pub malformed_at : (o : Owner) (bs : List ℕ) (at : ℕ) → Stands o 0 (take (length bs - at) (drop at bs)) answer.Malformed → Stands o at bs answer.Malformed
-malformed_at o bs at h = let P : List ℕ → Type 0 = λ xs. Stands o 0 xs answer.Malformed in subst P (take_rest bs at) h
+pub passed_over : (o : Owner) (bs : List ℕ) (at : ℕ) (r : Result (Option Entry) Malformed) → Stands o at bs r → None ≡ result_unwrap_or r None
+    → NoRecord o (drop at bs)
+passed_over o bs at (Ok (Some x)) h q = absurd (cc)
+passed_over o bs at (Ok None) h q = torn_none o (drop at bs) h
+passed_over o bs at (Err x) h q = h.1
 
 -- so far the bytes are whole records, and those ahead are the others
 abbrev pub Reached : Owner → List ℕ → ℕ → Type 0
@@ -136,6 +144,10 @@ pub reached_malformed : (o : Owner) (bs : List ℕ) (at : ℕ) → Reached o bs 
 reached_malformed o bs at h t k =
     let P : ℕ → Type 0 = λ n. (Torn o (drop n bs) → ⊥) × NoRecord o (drop n bs) in
     subst P (reached_end o bs at h k) (t, k)
+
+pub refused_of : (o : Owner) (bs : List ℕ) (r : Result ℕ Malformed) → IsErr r → Refused o bs → Judged o bs r
+refused_of o bs (Ok n) e h = absurd (cc)
+refused_of o bs (Err x) e h = h
 
 -- what follows, at the end of the records
 pub torn_rest : (o : Owner) (bs : List ℕ) (n : ℕ) → Cut o bs n → Torn o (rest_of o bs)

@@ -1,16 +1,18 @@
 -- What is on disk after each call on a store.
 -- Assumes nothing.
-use Rattle.std.proofs.Common.{◌≡◌, ℕ, ◌-◌, ◌≤◌, min, List, ◌++◌, length, take, Ok, Err, Result, sym, ap, ◌∙◌, inl, inr, arith}
+use Rattle.std.proofs.Common.{◌≡◌, ℕ, ◌-◌, ◌≤◌, min, List, [], ◌∷◌, ◌++◌, length, take, Ok, Err, Result, OnOk, append-nil, sym, ap, ◌∙◌, inl, inr, arith}
 use Rattle.std.proofs.lemmas.List.{take_all, take_at, take-take, length-take}
 use Rattle.std.proofs.lemmas.Bool.{cases_lt}
-use Rattle.journal.specs.Stores.{Grown, Saved}
+use Rattle.journal.specs.Records.{Rec, layout}
+use Rattle.journal.specs.Logs.{Logged}
+use Rattle.journal.specs.Stores.{Disk, Saved, Committed}
 
 -- appended first, then synced
-pub grown_synced : {T E : Type 0} (a b c s t u more : List ℕ) (r : Result T E) → b ≡ a ++ more → t ≡ s → c ≡ b → Saved t b u r
-    → Grown a more c r × Saved s c u r
-grown_synced a b c s t u more (Ok x) e f g h = (g ∙ e, h ∙ sym g)
-grown_synced a b c s t u more (Err x) e f g h =
-    ((length more, g ∙ e ∙ ap (λ (q : List ℕ). a ++ q) (sym (take_all (length more) more (omega arith)))), h ∙ f)
+pub grown_synced : {T E : Type 0} (a b c : Disk) (more : List ℕ) (r : Result T E) → (b.appended ≡ a.appended ++ more) × (b.synced ≡ a.synced) → Saved b c r
+    → Committed a more c r
+grown_synced a b c more (Ok x) (e, f) (g, h) = (g ∙ e, h ∙ sym g)
+grown_synced a b c more (Err x) (e, f) (g, h) =
+    (length more, g ∙ e ∙ ap (λ (q : List ℕ). a.appended ++ q) (sym (take_all (length more) more (omega arith))), h ∙ f)
 
 -- the first bytes of a file that was cut
 pub take_less : (s n : ℕ) (xs : List ℕ) → take (min s n) (take n xs) ≡ take n (take s xs)
@@ -29,3 +31,12 @@ front_is n out lay rest l e = ap (λ (q : List ℕ). take (n - 0) q) e ∙ take_
 -- all of the bytes, as they are cut out
 pub all_is : (n : ℕ) (xs : List ℕ) → length xs ≤ n → take (n - 0) xs ≡ xs
 all_is n xs l = take_all (n - 0) xs (omega arith)
+
+-- a record that was committed is logged
+pub logged_by : {T E : Type 0} (was is : Disk) (r : Rec) (res : Result T E) → Committed was (layout r) is res → OnOk res (Logged (r ∷ []) was is)
+logged_by was is r (Ok x) (g, s) = record { grown = g ∙ ap (λ (q : List ℕ). was.appended ++ q) (sym (append-nil (layout r))); synced = λ _. s }
+logged_by was is r (Err x) h = tt
+
+-- without a record nothing is
+pub none_logged : (d : Disk) → Logged [] d d
+none_logged d = record { grown = sym (append-nil d.appended); synced = λ e. e }

@@ -1,15 +1,12 @@
 -- The file of a store that keeps it in memory.
 -- Assumes nothing.
-use Rattle.std.specs.Prelude.{ℕ, ◌-◌, List, take, vec_items, vec_len, vec_capacity}
+use Rattle.std.specs.Prelude.{ℕ, ◌-◌, take, vec_items, vec_len, vec_capacity}
 use Rattle.journal.specs.declared.store.memory.MemoryStore.{MemoryStore}
+use Rattle.journal.specs.Stores.{Disk}
 
--- what it holds
-abbrev pub file_of : MemoryStore → List ℕ
-file_of s = vec_items s.bytes
-
--- what of it is synced
-abbrev pub disk_of : MemoryStore → List ℕ
-disk_of s = take s.synced (vec_items s.bytes)
+-- what it holds, and what of it is synced
+abbrev pub disk_of : MemoryStore → Disk
+disk_of s = record { appended = vec_items s.bytes; synced = take s.synced (vec_items s.bytes) }
 
 -- how many bytes more it has room for
 abbrev pub room_of : MemoryStore → ℕ

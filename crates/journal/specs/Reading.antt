@@ -1,13 +1,12 @@
 -- What the reader of a journal says of its bytes.
 -- Assumes nothing.
-use Rattle.std.specs.Prelude.{◌≡◌, ℕ, ◌+◌, ◌≤◌, List, ◌++◌, length, take, drop, Ok, Err, Result}
+use Rattle.std.specs.Prelude.{◌≡◌, ℕ, ◌+◌, ◌≤◌, List, ◌++◌, length, take, drop, Ok, Err, Result, Some, None, Option}
 use Rattle.std.specs.Borrow.{Bor}
 use Rattle.message.specs.declared.form.Malformed.{Malformed}
 use Rattle.message.specs.Format.{carried}
 use Rattle.journal.specs.declared.record.Owner.{Owner}
 use Rattle.journal.specs.declared.record.Record.{Record}
-use Rattle.journal.specs.declared.read.Next.{Next}
-use Rattle.journal.specs.declared.read.Next.TheVariants as code
+use Rattle.journal.specs.declared.read.Entry.{Entry}
 use Rattle.journal.specs.Records.{Rec, recorded, layout, Sound, Torn, NoRecord, bytes_of, records_of, rest_of}
 
 -- the record of the code that ends at a place of the bytes; of a part that is applied the last 1,024 bytes before it
@@ -21,10 +20,10 @@ pub record Standing (o : Owner) (at : ℕ) (bs : List ℕ) (r : Record) (end : �
   pub is : drop at bs ≡ layout (ending bs end r) ++ drop end bs
 
 -- what stands from a place on: a record, less than the record that its first byte announces, or neither
-abbrev pub Stands : Owner → (at : ℕ) → List ℕ → Next → Type 0
-Stands o at bs (code.Whole r end) = Standing o at bs r end
-Stands o at bs code.Torn = Torn o (drop at bs)
-Stands o at bs code.Malformed = (Torn o (drop at bs) → ⊥) × NoRecord o (drop at bs)
+abbrev pub Stands : Owner → (at : ℕ) → List ℕ → Result (Option Entry) Malformed → Type 0
+Stands o at bs (Ok (Some e)) = Standing o at bs e.«record» e.end
+Stands o at bs (Ok None) = Torn o (drop at bs)
+Stands o at bs (Err x) = (Torn o (drop at bs) → ⊥) × NoRecord o (drop at bs)
 
 -- the whole records end at this place, and what follows is torn: there the journal is to be cut
 pub record Cut (o : Owner) (bs : List ℕ) (n : ℕ) : Type 0 where

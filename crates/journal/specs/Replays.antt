@@ -7,6 +7,7 @@ use Rattle.journal.specs.declared.replay.OpenError.{OpenError}
 use Rattle.journal.specs.declared.replay.OpenError.TheVariants as why
 use Rattle.journal.specs.Records.{Rec, bytes_of, Torn, records_of, rest_of}
 use Rattle.journal.specs.Reading.{Cut, Refused}
+use Rattle.journal.specs.Stores.{Disk}
 
 -- from the state s through these records, in their order, to the state t, where P says what one record makes of a state
 abbrev pub Through : {S : Type 0} → (P : S → Rec → S → Type 0) → S → List Rec → S → Type 0
@@ -18,12 +19,13 @@ abbrev pub Replayed : {S : Type 0} → (P : S → Rec → S → Type 0) → Owne
 Replayed P o bs s t (Ok n) = Cut o bs n × Through P s (records_of o bs) t
 Replayed P o bs s t (Err e) = Refused o bs × (s ≡ t)
 
--- what opening leaves of a file, of what is known to be on disk, and of the state:
--- the whole records and no more, all of them on disk and applied; of a journal that is refused all as it was;
--- where the store fails the file cut or not, and the records applied
-abbrev pub Opened : {S T : Type 0} → (P : S → Rec → S → Type 0) → Owner → (was is disk_was disk : List ℕ) → (s t : S) → Result T OpenError → Type 0
-Opened P o was is disk_was disk s t (Ok x) =
-    (is ≡ bytes_of (records_of o was)) × (disk ≡ is) × Torn o (rest_of o was) × Through P s (records_of o was) t
-Opened P o was is disk_was disk s t (Err why.Malformed) = Refused o was × (is ≡ was) × (disk ≡ disk_was) × (s ≡ t)
-Opened P o was is disk_was disk s t (Err (why.Store e)) =
-    ((is ≡ was) ⊎ (is ≡ bytes_of (records_of o was))) × Torn o (rest_of o was) × Through P s (records_of o was) t
+-- what opening leaves of a file and of the state: the whole records and no more, all of them on disk and applied;
+-- of a journal that is refused all as it was; where the store fails the file cut or not, and the records applied;
+-- for want of memory it never fails
+abbrev pub Opened : {S T : Type 0} → (P : S → Rec → S → Type 0) → Owner → (was is : Disk) → (s t : S) → Result T OpenError → Type 0
+Opened P o was is s t (Ok x) =
+    (is.appended ≡ bytes_of (records_of o was.appended)) × (is.synced ≡ is.appended) × Torn o (rest_of o was.appended) × Through P s (records_of o was.appended) t
+Opened P o was is s t (Err why.NoMemory) = ⊥
+Opened P o was is s t (Err why.Malformed) = Refused o was.appended × (is.appended ≡ was.appended) × (is.synced ≡ was.synced) × (s ≡ t)
+Opened P o was is s t (Err (why.Store e)) =
+    ((is.appended ≡ was.appended) ⊎ (is.appended ≡ bytes_of (records_of o was.appended))) × Torn o (rest_of o was.appended) × Through P s (records_of o was.appended) t

@@ -2,22 +2,33 @@
 -- Assumes nothing.
 use Rattle.std.specs.Prelude.{◌≡◌, ℕ, ◌⊎◌, List, ◌++◌, take, Ok, Err, Result}
 
--- the file after more bytes were appended: these and no others, or, where that failed, some first part of them
-abbrev pub Grown : {T E : Type 0} → (was more is : List ℕ) → Result T E → Type 0
-Grown was more is (Ok x) = is ≡ was ++ more
-Grown was more is (Err e) = (k : ℕ) × (is ≡ was ++ take k more)
+-- a file: what was appended to it, and what is known to be on disk, so that after a stop it has these bytes
+-- and some first part of the rest
+pub record Disk : Type 0 where
+  pub appended : List ℕ
+  pub synced : List ℕ
 
--- what is known to be on disk after a sync: the whole file, or, where that failed, what was known before
-abbrev pub Saved : {T E : Type 0} → (was file is : List ℕ) → Result T E → Type 0
-Saved was file is (Ok x) = is ≡ file
-Saved was file is (Err e) = is ≡ was
+-- more bytes were appended and nothing synced: these and no others, or, where that failed, some first part of them
+abbrev pub Grown : {T E : Type 0} → (was : Disk) → (more : List ℕ) → (is : Disk) → Result T E → Type 0
+Grown was more is (Ok x) = (is.appended ≡ was.appended ++ more) × (is.synced ≡ was.synced)
+Grown was more is (Err e) = (k : ℕ) × (is.appended ≡ was.appended ++ take k more) × (is.synced ≡ was.synced)
 
--- a file, or what is known to be on disk, after it was cut: so many of its first bytes, or, where that failed, as it was
-abbrev pub Shortened : {T E : Type 0} → (was : List ℕ) → (size : ℕ) → (is : List ℕ) → Result T E → Type 0
-Shortened was n is (Ok x) = is ≡ take n was
-Shortened was n is (Err e) = is ≡ was
+-- the file was synced: all that was appended is on disk, or, where that failed, what was known to be
+abbrev pub Saved : {T E : Type 0} → (was is : Disk) → Result T E → Type 0
+Saved was is (Ok x) = (is.appended ≡ was.appended) × (is.synced ≡ was.appended)
+Saved was is (Err e) = (is.appended ≡ was.appended) × (is.synced ≡ was.synced)
 
--- a file after it was to be cut and synced: cut and all of it on disk, or, where that failed, cut or not
-abbrev pub ShortenedSafe : {T E : Type 0} → (was : List ℕ) → (size : ℕ) → (is disk : List ℕ) → Result T E → Type 0
-ShortenedSafe was n is disk (Ok x) = (is ≡ take n was) × (disk ≡ is)
-ShortenedSafe was n is disk (Err e) = (is ≡ was) ⊎ (is ≡ take n was)
+-- more bytes were appended and all synced, or, where that failed, some first part was appended
+abbrev pub Committed : {T E : Type 0} → (was : Disk) → (more : List ℕ) → (is : Disk) → Result T E → Type 0
+Committed was more is (Ok x) = (is.appended ≡ was.appended ++ more) × (is.synced ≡ is.appended)
+Committed was more is (Err e) = (k : ℕ) × (is.appended ≡ was.appended ++ take k more) × (is.synced ≡ was.synced)
+
+-- the file was cut to so many of its first bytes, and so was what is known to be on disk, or, where that failed, neither
+abbrev pub Shortened : {T E : Type 0} → (was : Disk) → (size : ℕ) → (is : Disk) → Result T E → Type 0
+Shortened was n is (Ok x) = (is.appended ≡ take n was.appended) × (is.synced ≡ take n was.synced)
+Shortened was n is (Err e) = (is.appended ≡ was.appended) × (is.synced ≡ was.synced)
+
+-- the file was to be cut and synced: cut and all of it on disk, or, where that failed, cut or not
+abbrev pub ShortenedSafe : {T E : Type 0} → (was : Disk) → (size : ℕ) → (is : Disk) → Result T E → Type 0
+ShortenedSafe was n is (Ok x) = (is.appended ≡ take n was.appended) × (is.synced ≡ is.appended)
+ShortenedSafe was n is (Err e) = (is.appended ≡ was.appended) ⊎ (is.appended ≡ take n was.appended)

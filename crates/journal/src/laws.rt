@@ -1,50 +1,36 @@
 ghost use Rattle.journal.specs.Laws.{ReadBack, AppendRead, TornLeaves, StopLeaves, FrontIsRecords, TornIsCut, CutOnce};
 
 /// Records are read back one after another, whatever follows them.
-pub fn records_are_read_back() -> u8
+pub fn records_are_read_back()
     ensures { ReadBack }
-{
-    0
-}
+{}
 
 /// A record that is appended whole is read back.
-pub fn appended_is_read() -> u8
+pub fn appended_is_read()
     ensures { AppendRead }
-{
-    0
-}
+{}
 
 /// A proper first part of a record is torn, and leaves the records before it.
-pub fn torn_leaves_the_others() -> u8
+pub fn torn_leaves_the_others()
     ensures { TornLeaves }
-{
-    0
-}
+{}
 
 /// A stop while a record is appended leaves the records before it, and the record if all of its bytes are there.
-pub fn stop_leaves_whole_records() -> u8
+pub fn stop_leaves_whole_records()
     ensures { StopLeaves }
-{
-    0
-}
+{}
 
 /// The records of any bytes are their first part, each may stand in the journal, and no record follows.
-pub fn front_is_records() -> u8
+pub fn front_is_records()
     ensures { FrontIsRecords }
-{
-    0
-}
+{}
 
 /// A journal with a torn end is cut after the last whole record.
-pub fn torn_is_cut() -> u8
+pub fn torn_is_cut()
     ensures { TornIsCut }
-{
-    0
-}
+{}
 
 /// What is cut has the same records, and is not cut again.
-pub fn cut_once() -> u8
+pub fn cut_once()
     ensures { CutOnce }
-{
-    0
-}
+{}

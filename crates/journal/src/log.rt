@@ -1,4 +1,4 @@
-ghost use Rattle.std.specs.Prelude.{List, OnOk};
+ghost use Rattle.std.specs.Prelude.{OnOk};
 ghost use Rattle.journal.specs.Logs.{Logged, logged};
 
 use crate::record::Record;
@@ -11,11 +11,10 @@ pub fn log<S: Store>(
     record: Option<Record>,
     part: &[u8; 1024],
 ) -> Result<(), StoreError>
-    ensures { OnOk result (Logged (logged part.now «record») (S.appended store.old) (S.synced store.old) (S.appended store.new) (S.synced store.new)) }
+    ensures { OnOk result (Logged (logged part.now «record») (S.disk store.old) (S.disk store.new)) }
 {
-    let Some(record) = record else {
-        return Ok(());
-    };
-    commit_record(store, &record, part)?;
-    Ok(())
+    match record {
+        Some(record) => commit_record(store, &record, part),
+        None => Ok(()),
+    }
 }

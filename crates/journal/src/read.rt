@@ -8,106 +8,89 @@ use part::head::Head;
 use part::number::number_at;
 use part::place::Place;
 
-/// What stands at a place of a journal.
-#[derive(Clone, Copy)]
-pub enum Next {
-    /// a record, and where the next one begins
-    Whole { record: Record, end: usize },
-    /// nothing, or less than the record that the first byte announces: what a stop may leave
-    Torn,
-    /// what no record of this owner's begins with
-    Malformed,
+/// A whole record of a journal, and where the next one begins.
+#[derive(Clone, Copy, Debug, PartialEq, Eq)]
+pub struct Entry {
+    pub record: Record,
+    pub end: usize,
 }
 
 // What begins with a first byte 8, by the bytes after it.
-fn applied(body: &[u8]) -> Next
+fn applied(body: &[u8]) -> Result<Option<Entry>, Malformed>
     ensures { Stands TheKeeper 0 (8 ∷ body.now) result }
 {
     if body.len() < 1031 {
-        return Next::Torn;
+        return Ok(None);
     }
-    let Some(head) = Head::read(body) else {
-        return Next::Malformed;
-    };
-    Next::Whole {
+    let head = Head::read(body).ok_or(Malformed)?;
+    Ok(Some(Entry {
         record: Record::Applied(head),
         end: 1032,
-    }
+    }))
 }
 
 // What begins with a first byte 9.
-fn void_up_to(body: &[u8]) -> Next
+fn void_up_to(body: &[u8]) -> Result<Option<Entry>, Malformed>
     ensures { Stands TheKeeper 0 (9 ∷ body.now) result }
 {
     if body.len() < 7 {
-        return Next::Torn;
+        return Ok(None);
     }
-    let Some(head) = Head::read(body) else {
-        return Next::Malformed;
-    };
-    Next::Whole {
+    let head = Head::read(body).ok_or(Malformed)?;
+    Ok(Some(Entry {
         record: Record::VoidUpTo(head),
         end: 8,
-    }
+    }))
 }
 
 // What begins with a first byte 10.
-fn numbers(body: &[u8]) -> Next
+fn numbers(body: &[u8]) -> Result<Option<Entry>, Malformed>
     ensures { Stands TheBorrower 0 (10 ∷ body.now) result }
 {
     if body.len() < 10 {
-        return Next::Torn;
+        return Ok(None);
     }
-    let Some(place) = Place::new(body[0], body[1]) else {
-        return Next::Malformed;
-    };
-    let Some(ask) = number_at(body, 2) else {
+    let place = Place::new(body[0], body[1]).ok_or(Malformed)?;
+    let (Some(ask), Some(write)) = (number_at(body, 2), number_at(body, 6)) else {
         unreachable()
     };
-    let Some(write) = number_at(body, 6) else {
-        unreachable()
-    };
-    Next::Whole {
+    Ok(Some(Entry {
         record: Record::Numbers { place, ask, write },
         end: 11,
-    }
+    }))
 }
 
 // What the bytes begin with.
-fn first(owner: Owner, bytes: &[u8]) -> Next
+fn first(owner: Owner, bytes: &[u8]) -> Result<Option<Entry>, Malformed>
     ensures { Stands owner 0 bytes.now result }
 {
     let [kind, body @ ..] = bytes else {
-        return Next::Torn;
+        return Ok(None);
     };
-    match owner {
-        Owner::Keeper => match *kind {
-            8 => applied(body),
-            9 => void_up_to(body),
-            0..=7 | 10..=255 => Next::Malformed,
-        },
-        Owner::Borrower => match *kind {
-            10 => numbers(body),
-            0..=9 | 11..=255 => Next::Malformed,
-        },
+    match (owner, *kind) {
+        (Owner::Keeper, 8) => applied(body),
+        (Owner::Keeper, 9) => void_up_to(body),
+        (Owner::Keeper, 0..=7 | 10..=255) => Err(Malformed),
+        (Owner::Borrower, 10) => numbers(body),
+        (Owner::Borrower, 0..=9 | 11..=255) => Err(Malformed),
     }
 }
 
-/// What stands at a place of a journal, and where the next record begins.
-pub fn next_record(owner: Owner, bytes: &[u8], at: usize) -> Next
+/// What stands at a place of a journal, and where the next record begins. None where nothing stands there, or less than
+/// the record that the first byte announces, as a stop may leave it; an error where no record of this owner's begins so.
+pub fn next_record(owner: Owner, bytes: &[u8], at: usize) -> Result<Option<Entry>, Malformed>
     ensures { Stands owner at bytes.now result }
 {
     if bytes.len() <= at {
-        return Next::Torn;
+        return Ok(None);
     }
-    match first(owner, &bytes[at..]) {
-        Next::Whole { record, end } => Next::Whole {
-            record,
-            end: at + end,
-        },
-        Next::Torn => Next::Torn,
-        Next::Malformed => Next::Malformed,
-    }
+    let Some(entry) = first(owner, &bytes[at..])? else {
+        return Ok(None);
+    };
+    Ok(Some(Entry {
+        end: at + entry.end,
+        ..entry
+    }))
 }
 
 /// How many bytes the whole records have: there a journal is cut when it is opened. One in which something follows that
@@ -116,21 +99,16 @@ pub fn whole(owner: Owner, bytes: &[u8]) -> Result<usize, Malformed>
     ensures { Judged owner bytes.now result }
 {
     let mut at = 0;
-    loop {
-        match next_record(owner, bytes, at) {
-            Next::Whole { end, .. } => at = end,
-            Next::Torn => return Ok(at),
-            Next::Malformed => return Err(Malformed),
-        }
+    while let Some(entry) = next_record(owner, bytes, at)? {
+        at = entry.end;
     }
+    Ok(at)
 }
 
 /// The whole records of a journal.
 pub fn kept(owner: Owner, bytes: &[u8]) -> Result<&[u8], Malformed>
     ensures { Front owner bytes.now result }
 {
-    let Ok(end) = whole(owner, bytes) else {
-        return Err(Malformed);
-    };
+    let end = whole(owner, bytes)?;
     Ok(&bytes[0..end])
 }

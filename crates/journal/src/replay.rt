@@ -1,22 +1,64 @@
-ghost use Rattle.std.specs.Prelude.{◌≤◌, length};
+ghost use Rattle.std.specs.Prelude.{◌≡◌, ◌≤◌, length};
 ghost use Rattle.journal.specs.Records.{Rec, recorded, WellFormed};
 ghost use Rattle.journal.specs.Reading.{ending};
 ghost use Rattle.journal.specs.Replays.{Replayed, Opened};
 ghost use Rattle.journal.specs.Stores.{ShortenedSafe};
+ghost use Rattle.journal.specs.declared.replay.OpenError.TheVariants.{NoMemory, Malformed as NoJournal, Store as NoStore};
 
-use crate::read::{Next, next_record, whole};
+use crate::read::{next_record, whole};
 use crate::record::{Owner, Record};
 use crate::store::{Store, StoreError};
 use message::decode::carried_part;
 use message::form::Malformed;
+use std::alloc::AllocError;
+use std::error::Error;
+use std::fmt;
 
-/// Why a journal was not opened.
+/// Why a journal was not opened, or nothing made of it.
 #[derive(Clone, Copy, PartialEq, Eq, Debug)]
 pub enum OpenError {
+    /// there is no memory for what it says
+    NoMemory,
     /// something in it is neither torn nor a record
     Malformed,
     /// it could not be cut and synced
     Store(StoreError),
+}
+
+impl fmt::Display for OpenError {
+    fn fmt<W: fmt::Write>(&self, f: &mut fmt::Formatter<W>) -> fmt::Result {
+        f.write_str(match self {
+            OpenError::NoMemory => "there is no memory for the parts",
+            OpenError::Malformed => "FILE is no journal of this program; it is left as it is",
+            OpenError::Store(_) => "FILE could not be cut and synced",
+        })
+    }
+}
+
+impl Error for OpenError {}
+
+impl From<AllocError> for OpenError {
+    ghost from_gives = { λ _ e. e ≡ NoMemory };
+
+    fn from(_: AllocError) -> OpenError {
+        OpenError::NoMemory
+    }
+}
+
+impl From<Malformed> for OpenError {
+    ghost from_gives = { λ _ e. e ≡ NoJournal };
+
+    fn from(_: Malformed) -> OpenError {
+        OpenError::Malformed
+    }
+}
+
+impl From<StoreError> for OpenError {
+    ghost from_gives = { λ s e. e ≡ NoStore s };
+
+    fn from(why: StoreError) -> OpenError {
+        OpenError::Store(why)
+    }
 }
 
 /// A state that the records of a journal make.
@@ -46,25 +88,19 @@ fn apply_ending<R: Journaled>(into: &mut R, record: Record, bytes: &[u8], end: u
 pub fn replay<R: Journaled>(owner: Owner, bytes: &[u8], into: &mut R) -> Result<usize, Malformed>
     ensures { Replayed R.becomes owner bytes.now into.old into.new result }
 {
-    let Ok(size) = whole(owner, bytes) else {
-        return Err(Malformed);
-    };
+    let size = whole(owner, bytes)?;
     let mut at = 0;
-    loop {
-        match next_record(owner, bytes, at) {
-            Next::Whole { record, end } => {
-                apply_ending(into, record, bytes, end);
-                at = end;
-            }
-            Next::Torn => return Ok(size),
-            Next::Malformed => return Ok(size),
-        }
+    // It was judged: what follows its whole records is torn, and no error is left to come.
+    while let Some(entry) = next_record(owner, bytes, at).unwrap_or(None) {
+        apply_ending(into, entry.record, bytes, entry.end);
+        at = entry.end;
     }
+    Ok(size)
 }
 
 // Cuts the file to so many of its first bytes, and syncs.
 fn shorten<S: Store>(store: &mut S, size: usize) -> Result<(), StoreError>
-    ensures { ShortenedSafe (S.appended store.old) size (S.appended store.new) (S.synced store.new) result }
+    ensures { ShortenedSafe (S.disk store.old) size (S.disk store.new) result }
 {
     store.truncate(size)?;
     store.sync()
@@ -77,13 +113,9 @@ pub fn open<S: Store, R: Journaled>(
     store: &mut S,
     into: &mut R,
 ) -> Result<(), OpenError>
-    ensures { Opened R.becomes owner (S.appended store.old) (S.appended store.new) (S.synced store.old) (S.synced store.new) into.old into.new result }
+    ensures { Opened R.becomes owner (S.disk store.old) (S.disk store.new) into.old into.new result }
 {
-    let Ok(size) = replay(owner, store.content(), into) else {
-        return Err(OpenError::Malformed);
-    };
-    match shorten(store, size) {
-        Ok(()) => Ok(()),
-        Err(e) => Err(OpenError::Store(e)),
-    }
+    let size = replay(owner, store.content(), into)?;
+    shorten(store, size)?;
+    Ok(())
 }

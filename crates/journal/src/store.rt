@@ -1,8 +1,12 @@
-ghost use Rattle.std.specs.Prelude.{◌≡◌, ℕ, List};
+ghost use Rattle.std.specs.Prelude.{◌≡◌};
+ghost use Rattle.journal.specs.declared.store.StoreError.TheVariants.{NoMemory};
 ghost use Rattle.journal.specs.Records.{recorded, layout, WellFormed};
-ghost use Rattle.journal.specs.Stores.{Grown, Saved, Shortened};
+ghost use Rattle.journal.specs.Stores.{Disk, Grown, Saved, Committed, Shortened};
 
 use crate::record::{Record, encode};
+use std::alloc::AllocError;
+use std::error::Error;
+use std::fmt;
 
 pub mod failing;
 pub mod file;
@@ -17,39 +21,51 @@ pub enum StoreError {
     Failed,
 }
 
+impl fmt::Display for StoreError {
+    fn fmt<W: fmt::Write>(&self, f: &mut fmt::Formatter<W>) -> fmt::Result {
+        f.write_str(match self {
+            StoreError::NoMemory => "there is no memory for the journal",
+            StoreError::Failed => "the journal could not be written and synced",
+        })
+    }
+}
+
+impl Error for StoreError {}
+
+impl From<AllocError> for StoreError {
+    ghost from_gives = { λ _ e. e ≡ NoMemory };
+
+    fn from(_: AllocError) -> StoreError {
+        StoreError::NoMemory
+    }
+}
+
 /// A file that a journal is kept in: it grows at its end, and is safe from a stop as far as it is synced.
 pub trait Store {
-    // what the file holds
-    ghost appended: { Self → List ℕ };
-
-    // what is known to be on disk: after a stop the file has these bytes and some first part of the rest
-    ghost synced: { Self → List ℕ };
+    // what the file holds, and what is known to be on disk
+    ghost disk: { Self → Disk };
 
     /// What the file holds.
     fn content(&self) -> &[u8]
-        ensures { result.now ≡ appended self.now };
+        ensures { result.now ≡ (disk self.now).appended };
 
     /// Appends bytes to the file. Where it fails, some first part of them may be there.
     fn append(&mut self, bytes: &[u8]) -> Result<(), StoreError>
-        ensures grown { Grown (appended self.old) bytes.now (appended self.new) result }
-        ensures saved { synced self.new ≡ synced self.old };
+        ensures { Grown (disk self.old) bytes.now (disk self.new) result };
 
     /// Brings all that the file holds to the disk.
     fn sync(&mut self) -> Result<(), StoreError>
-        ensures same { appended self.new ≡ appended self.old }
-        ensures saved { Saved (synced self.old) (appended self.old) (synced self.new) result };
+        ensures { Saved (disk self.old) (disk self.new) result };
 
     /// Cuts the file to so many of its first bytes.
     fn truncate(&mut self, size: usize) -> Result<(), StoreError>
-        ensures cut { Shortened (appended self.old) size (appended self.new) result }
-        ensures saved { Shortened (synced self.old) size (synced self.new) result };
+        ensures { Shortened (disk self.old) size (disk self.new) result };
 }
 
 /// Appends bytes and syncs: once it is done they are on the disk, behind what was there. What depends on them may leave
 /// only then.
 pub fn commit<S: Store>(store: &mut S, bytes: &[u8]) -> Result<(), StoreError>
-    ensures grown { Grown (S.appended store.old) bytes.now (S.appended store.new) result }
-    ensures saved { Saved (S.synced store.old) (S.appended store.new) (S.synced store.new) result }
+    ensures { Committed (S.disk store.old) bytes.now (S.disk store.new) result }
 {
     store.append(bytes)?;
     store.sync()
@@ -62,8 +78,7 @@ pub fn commit_record<S: Store>(
     part: &[u8; 1024],
 ) -> Result<(), StoreError>
     ensures formed { WellFormed (recorded part.now «record».now) }
-    ensures grown { Grown (S.appended store.old) (layout (recorded part.now «record».now)) (S.appended store.new) result }
-    ensures saved { Saved (S.synced store.old) (S.appended store.new) (S.synced store.new) result }
+    ensures committed { Committed (S.disk store.old) (layout (recorded part.now «record».now)) (S.disk store.new) result }
 {
     let mut out = [0; 1032];
     let Some(size) = encode(record, part, &mut out) else {

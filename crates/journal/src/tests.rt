@@ -14,9 +14,11 @@ use std::fs;
 use std::test::Fail;
 
 fn head(number: u32) -> Option<Head> {
-    let who = Who::new(31)?;
-    let place = Place::new(63, 255)?;
-    Some(Head { who, place, number })
+    Some(Head {
+        who: Who::new(31)?,
+        place: Place::new(63, 255)?,
+        number,
+    })
 }
 
 // A borrower's record with the greatest numbers that its fields take.
@@ -30,17 +32,12 @@ fn numbers(head: Head) -> Record {
 
 // Where a journal is cut; none where it is refused.
 fn end(owner: Owner, bytes: &[u8]) -> Option<usize> {
-    match whole(owner, bytes) {
-        Ok(size) => Some(size),
-        Err(_) => None,
-    }
+    whole(owner, bytes).ok()
 }
 
 #[test]
 fn the_bytes_of_each_record(rt: HostRuntime) -> Result<(), Fail> {
-    let Some(head) = head(0xfedc_ba98) else {
-        return Err(Fail::new("no head"));
-    };
+    let head = head(0xfedc_ba98).ok_or("no head")?;
     let mut part = [0u8; 1024];
     part[0] = 1;
     part[1023] = 2;
@@ -79,9 +76,7 @@ fn cut_everywhere(
 
 #[test]
 fn a_torn_record_is_cut(rt: HostRuntime) -> Result<(), Fail> {
-    let Some(head) = head(1) else {
-        return Err(Fail::new("no head"));
-    };
+    let head = head(1).ok_or("no head")?;
     let applied = Record::Applied(head);
     let void = Record::VoidUpTo(head);
     let numbers = numbers(head);
@@ -139,9 +134,7 @@ fn refused_with(
 
 #[test]
 fn a_bad_record_of_the_keepers_is_refused(rt: HostRuntime) -> Result<(), Fail> {
-    let Some(head) = head(1) else {
-        return Err(Fail::new("no head"));
-    };
+    let head = head(1).ok_or("no head")?;
     let mut store = MemoryStore::new(rt.alloc());
     commit_record(&mut store, &Record::VoidUpTo(head), &[0; 1024])?;
     commit_record(&mut store, &Record::VoidUpTo(head), &[0; 1024])?;
@@ -166,9 +159,7 @@ fn a_bad_record_of_the_keepers_is_refused(rt: HostRuntime) -> Result<(), Fail> {
 
 #[test]
 fn a_bad_record_of_a_borrowers_is_refused(rt: HostRuntime) -> Result<(), Fail> {
-    let Some(head) = head(1) else {
-        return Err(Fail::new("no head"));
-    };
+    let head = head(1).ok_or("no head")?;
     let mut store = MemoryStore::new(rt.alloc());
     commit_record(&mut store, &numbers(head), &[0; 1024])?;
     commit_record(&mut store, &numbers(head), &[0; 1024])?;
@@ -226,9 +217,7 @@ const NONE: Seen = Seen {
 // Appends records with the numbers from 0 on, every other one a part.
 fn fill(store: &mut MemoryStore, count: u32) -> Result<(), Fail> {
     for number in 0..count {
-        let Some(head) = head(number) else {
-            return Err(Fail::new("no head"));
-        };
+        let head = head(number).ok_or("no head")?;
         let record = if number % 2 == 0 {
             Record::Applied(head)
         } else {
@@ -260,9 +249,7 @@ fn opening_cuts_and_applies(rt: HostRuntime) -> Result<(), Fail> {
     open(Owner::Keeper, &mut store, &mut seen)?;
     assert!(rt; seen.in_order && seen.next == 3);
     assert!(rt; store.content().len() == size, "the torn end is gone");
-    let Ok(whole) = kept(Owner::Keeper, store.content()) else {
-        return Err(Fail::new("refused"));
-    };
+    let whole = kept(Owner::Keeper, store.content()).map_err(|_| "refused")?;
     assert!(rt; whole.len() == size);
     Ok(())
 }

@@ -4,7 +4,8 @@ use Rattle.std.proofs.Common.{◌≡◌, ℕ, ◌≤◌, Bool, true, false, cond
 use Rattle.std.proofs.lemmas.Bool.{or_parts, or_from, lt-ltb, ltb-true}
 use Rattle.std.proofs.lemmas.Bool.Decides.{nat_tests}
 use Rattle.lease.specs.declared.lease.Lease.{Lease}
-use Rattle.lease.specs.Leases.{any, running, barring, staying}
+use Rattle.lease.specs.Leases.{running, barring, staying}
+use Rattle.std.specs.List.{list_any}
 use Rattle.message.specs.Kinds.{writes}
 use Rattle.lease.specs.Exclusion.{clash, Exclusive, NeverClash}
 
@@ -28,16 +29,16 @@ clash_turned clock a x h =
     ∙ ap (λ w. running clock a && (eqb a.place x.place && (not w && (writes x.kind || writes a.kind)))) (eqb_comm x.who a.who)
     ∙ h)
 
-any_push : {X : Type 0} (p : X → Bool) (xs : List X) (x : X) → any p xs ≡ false → p x ≡ false → any p (xs ++ x ∷ []) ≡ false
+any_push : {X : Type 0} (p : X → Bool) (xs : List X) (x : X) → list_any p xs ≡ false → p x ≡ false → list_any p (xs ++ x ∷ []) ≡ false
 any_push p [] x h k = or_from (p x) false k refl
-any_push p (y ∷ xs) x h k = let b = or_parts (p y) (any p xs) h in or_from (p y) (any p (xs ++ x ∷ [])) b.0 (any_push p xs x b.1 k)
+any_push p (y ∷ xs) x h k = let b = or_parts (p y) (list_any p xs) h in or_from (p y) (list_any p (xs ++ x ∷ [])) b.0 (any_push p xs x b.1 k)
 
-any_kept : {X : Type 0} (p t : X → Bool) (xs : List X) → any p xs ≡ false → any p (filter t xs) ≡ false
+any_kept : {X : Type 0} (p t : X → Bool) (xs : List X) → list_any p xs ≡ false → list_any p (filter t xs) ≡ false
 any_kept p t [] h = refl
 any_kept p t (y ∷ xs) h =
-    let b = or_parts (p y) (any p xs) h in
+    let b = or_parts (p y) (list_any p xs) h in
     let r = any_kept p t xs b.1 in
-    elim (t y) as (λ v. any p (cond v (y ∷ filter t xs) (filter t xs)) ≡ false) [ true ↦ or_from (p y) (any p (filter t xs)) b.0 r | false ↦ r ]
+    elim (t y) as (λ v. list_any p (cond v (y ∷ filter t xs) (filter t xs)) ≡ false) [ true ↦ or_from (p y) (list_any p (filter t xs)) b.0 r | false ↦ r ]
 
 pub exclusive_kept : (clock : ℕ) (t : Lease → Bool) (ls : List Lease) → Exclusive clock ls → Exclusive clock (filter t ls)
 exclusive_kept clock t [] h = tt
@@ -45,15 +46,15 @@ exclusive_kept clock t (a ∷ ls) h =
     let r = exclusive_kept clock t ls h.1 in
     elim (t a) as (λ v. Exclusive clock (cond v (a ∷ filter t ls) (filter t ls))) [ true ↦ (any_kept (clash clock a) t ls h.0, r) | false ↦ r ]
 
-pub exclusive_push : (clock : ℕ) (ls : List Lease) (x : Lease) → Exclusive clock ls → any (barring clock x.who x.place x.kind) ls ≡ false
+pub exclusive_push : (clock : ℕ) (ls : List Lease) (x : Lease) → Exclusive clock ls → list_any (barring clock x.who x.place x.kind) ls ≡ false
     → Exclusive clock (ls ++ x ∷ [])
 exclusive_push clock [] x h k = (refl, tt)
 exclusive_push clock (a ∷ ls) x h k =
-    let b = or_parts (barring clock x.who x.place x.kind a) (any (barring clock x.who x.place x.kind) ls) k in
+    let b = or_parts (barring clock x.who x.place x.kind a) (list_any (barring clock x.who x.place x.kind) ls) k in
     (any_push (clash clock a) ls x h.0 (clash_turned clock a x b.0), exclusive_push clock ls x h.1 b.1)
 
 -- as a table lends
-pub exclusive_lent : (clock : ℕ) (t : Lease → Bool) (ls : List Lease) (x : Lease) → Exclusive clock ls → any (barring clock x.who x.place x.kind) ls ≡ false
+pub exclusive_lent : (clock : ℕ) (t : Lease → Bool) (ls : List Lease) (x : Lease) → Exclusive clock ls → list_any (barring clock x.who x.place x.kind) ls ≡ false
     → Exclusive clock (filter t ls ++ x ∷ [])
 exclusive_lent clock t ls x h k = exclusive_push clock (filter t ls) x (exclusive_kept clock t ls h) (any_kept (barring clock x.who x.place x.kind) t ls k)
 
@@ -66,9 +67,9 @@ later r true s true x f g h = rw (f refl, g refl) at h
 still : (c c' : ℕ) (l : Lease) → c ≤ c' → running c' l ≡ true → running c l ≡ true
 still c c' l h e = lt-ltb c l.until (omega (arith, ltb-true c' l.until e))
 
-any_fewer : {X : Type 0} (p p' : X → Bool) → ((x : X) → p x ≡ false → p' x ≡ false) → (xs : List X) → any p xs ≡ false → any p' xs ≡ false
+any_fewer : {X : Type 0} (p p' : X → Bool) → ((x : X) → p x ≡ false → p' x ≡ false) → (xs : List X) → list_any p xs ≡ false → list_any p' xs ≡ false
 any_fewer p p' f [] h = refl
-any_fewer p p' f (x ∷ xs) h = let b = or_parts (p x) (any p xs) h in or_from (p' x) (any p' xs) (f x b.0) (any_fewer p p' f xs b.1)
+any_fewer p p' f (x ∷ xs) h = let b = or_parts (p x) (list_any p xs) h in or_from (p' x) (list_any p' xs) (f x b.0) (any_fewer p p' f xs b.1)
 
 pub exclusive_later : (c c' : ℕ) (ls : List Lease) → c ≤ c' → Exclusive c ls → Exclusive c' ls
 exclusive_later c c' [] le h = tt

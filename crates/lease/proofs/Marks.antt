@@ -3,7 +3,7 @@
 use Rattle.std.proofs.Common.{◌≡◌, ℕ, ◌+◌, ◌<◌, ◌≤◌, Bool, true, false, ◌||◌, ◌≢◌, List, length, get_or, drop, set, sym, refl, ap, ◌∙◌, inl, inr}
 use Rattle.std.proofs.lemmas.List.{at_drop_more, at_drop_all, length-set, get_or-set_same, get_or-set_other}
 use Rattle.std.proofs.lemmas.Bool.{cases_eq}
-use Rattle.lease.specs.Leases.{any}
+use Rattle.std.specs.List.{list_any}
 
 or_false : (b : Bool) → (b || false) ≡ b
 or_false true = refl
@@ -16,10 +16,10 @@ or_true false = refl
 -- f w x: the element x marks the place w. The first i of xs have been looked at, and ms has the marks of n places
 pub record Marked {X : Type 0} (n : ℕ) (f : ℕ → X → Bool) (xs : List X) (ms : List Bool) (i : ℕ) : Type 0 where
   pub long : length ms ≡ n
-  pub found : (w : ℕ) → w < n → (get_or ms w false || any (f w) (drop i xs)) ≡ any (f w) xs
+  pub found : (w : ℕ) → w < n → (get_or ms w false || list_any (f w) (drop i xs)) ≡ list_any (f w) xs
 
-step : {X : Type 0} (p : X → Bool) (xs : List X) (i : ℕ) (d : X) → i < length xs → any p (drop i xs) ≡ (p (get_or xs i d) || any p (drop (i + 1) xs))
-step p xs i d h = at_drop_more (any p) xs i d h
+step : {X : Type 0} (p : X → Bool) (xs : List X) (i : ℕ) (d : X) → i < length xs → list_any p (drop i xs) ≡ (p (get_or xs i d) || list_any p (drop (i + 1) xs))
+step p xs i d h = at_drop_more (list_any p) xs i d h
 
 module _ {X : Type 0} {n : ℕ} {f : ℕ → X → Bool} {xs : List X} {ms : List Bool} {i : ℕ} where
   pub marked_more_no : (d : X) → i < length xs → ((w : ℕ) → w < n → f w (get_or xs i d) ≡ false) → Marked n f xs ms i → Marked n f xs ms (i + 1)
@@ -32,15 +32,15 @@ module _ {X : Type 0} {n : ℕ} {f : ℕ → X → Bool} {xs : List X} {ms : Lis
       record {
         long = length-set ms k true ∙ m.long;
         found = λ w l. elim (cases_eq w k) [
-          | inl e ↦ ap (λ b. b || any (f w) (drop (i + 1) xs)) (ap (λ j. get_or (set ms k true) j false) e ∙ get_or-set_same ms k true false (rw m.long kn))
+          | inl e ↦ ap (λ b. b || list_any (f w) (drop (i + 1) xs)) (ap (λ j. get_or (set ms k true) j false) e ∙ get_or-set_same ms k true false (rw m.long kn))
               ∙ sym (sym (m.found w l) ∙ ap (λ b. get_or ms w false || b) (step (f w) xs i d h ∙ rw (ap (λ j. f j (get_or xs i d)) e ∙ yes')) ∙ or_true (get_or ms w false))
-          | inr ne ↦ ap (λ b. b || any (f w) (drop (i + 1) xs)) (get_or-set_other ms k w true false ne)
+          | inr ne ↦ ap (λ b. b || list_any (f w) (drop (i + 1) xs)) (get_or-set_other ms k w true false ne)
               ∙ ap (λ b. get_or ms w false || b) (sym (step (f w) xs i d h ∙ rw (no' w ne))) ∙ m.found w l
         ];
       }
 
-  pub marked_all : length xs ≤ i → Marked n f xs ms i → (w : ℕ) → w < n → get_or ms w false ≡ any (f w) xs
-  marked_all h m w l = sym (or_false (get_or ms w false)) ∙ ap (λ b. get_or ms w false || b) (sym (at_drop_all (any (f w)) xs i h)) ∙ m.found w l
+  pub marked_all : length xs ≤ i → Marked n f xs ms i → (w : ℕ) → w < n → get_or ms w false ≡ list_any (f w) xs
+  marked_all h m w l = sym (or_false (get_or ms w false)) ∙ ap (λ b. get_or ms w false || b) (sym (at_drop_all (list_any (f w)) xs i h)) ∙ m.found w l
 
 pub marked_none : {X : Type 0} (n : ℕ) (f : ℕ → X → Bool) (xs : List X) (ms : List Bool) → length ms ≡ n
     → ((w : ℕ) → w < n → get_or ms w false ≡ false) → Marked n f xs ms 0

@@ -1,15 +1,10 @@
 -- The tests on one lease, and on a list of them.
 -- Assumes nothing.
-use Rattle.std.specs.Prelude.{ℕ, Bool, false, not, ◌&&◌, ◌||◌, List, [], ◌∷◌, ◌==◌, nat_lt}
+use Rattle.std.specs.Prelude.{ℕ, Bool, not, ◌&&◌, ◌||◌, ◌==◌, nat_lt}
 use Rattle.message.specs.declared.kind.Kind.{Kind}
 use Rattle.message.specs.declared.kind.Kind.TheVariants.{Reading}
 use Rattle.message.specs.Kinds.{writes}
 use Rattle.lease.specs.declared.lease.Lease.{Lease}
-
--- some element passes
-abbrev pub any : {X : Type 0} → (X → Bool) → List X → Bool
-any p [] = false
-any p (x ∷ xs) = p x || any p xs
 
 -- it runs at this reading of the keeper's clock
 abbrev pub running : (clock : ℕ) → Lease → Bool

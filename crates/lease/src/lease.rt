@@ -1,11 +1,53 @@
+ghost use Rattle.std.specs.Prelude.{◌≡◌};
+
+use message::form::Ask;
 use message::kind::Kind;
+use part::head::Head;
 
 /// A lease of a part to a borrower, under the number of the ask, that runs while the keeper's clock is below `until`.
-#[derive(Clone, Copy)]
+#[derive(Clone, Copy, Debug, PartialEq, Eq)]
 pub struct Lease {
     pub who: u8,
     pub place: u16,
     pub kind: Kind,
     pub number: u32,
     pub until: u64,
+}
+
+impl Lease {
+    ghost use Rattle.lease.specs.Leases.{running, barring, allowing, staying};
+
+    /// It runs.
+    pub fn runs(&self, clock: u64) -> bool
+        ensures { result ≡ running clock self.now }
+    {
+        clock < self.until
+    }
+
+    /// It stands in the way of a loan of this part, of this kind, to this borrower.
+    pub fn bars(&self, clock: u64, ask: &Ask) -> bool
+        ensures { result ≡ barring clock ask.now.head.who.id ask.now.head.place.at ask.now.kind self.now }
+    {
+        self.runs(clock)
+            && self.place == ask.head.place.at
+            && self.who != ask.head.who.id
+            && (ask.kind.is_writing() || self.kind.is_writing())
+    }
+
+    /// It lets this borrower write this part.
+    pub fn allows(&self, clock: u64, write: &Head) -> bool
+        ensures { result ≡ allowing clock write.now.who.id write.now.place.at self.now }
+    {
+        self.runs(clock)
+            && self.place == write.place.at
+            && self.who == write.who.id
+            && self.kind.is_writing()
+    }
+
+    /// It is not one that this borrower gave back: of this part, for an ask up to this number.
+    pub fn stays(&self, back: &Head) -> bool
+        ensures { result ≡ staying back.now.who.id back.now.place.at back.now.number self.now }
+    {
+        self.who != back.who.id || self.place != back.place.at || self.number > back.number
+    }
 }

@@ -4,4 +4,3 @@
 pub mod laws;
 pub mod lease;
 pub mod table;
-pub mod test;

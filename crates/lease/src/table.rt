@@ -2,7 +2,6 @@ ghost use Rattle.std.specs.Prelude.{◌≤◌, vec_len, vec_capacity};
 
 use crate::lease::Lease;
 
-pub mod search;
 pub mod steps;
 
 /// The leases. Memory for 4,096 is taken at the start, so that no step fails for want of it.

@@ -5,7 +5,8 @@ use Rattle.message.specs.declared.kind.Kind.{Kind}
 use Rattle.message.specs.Format.{Msg, Loan, In, Void, Recall}
 use Rattle.journal.specs.Records.{Rec, Applied, VoidUpTo}
 use Rattle.lease.specs.declared.lease.Lease.{Lease}
-use Rattle.lease.specs.Leases.{any, running, barring, allowing, staying}
+use Rattle.lease.specs.Leases.{running, barring, allowing, staying}
+use Rattle.std.specs.List.{list_any}
 use Rattle.lease.specs.Tables.{marks_of}
 use Rattle.part.specs.Parts.{at_1}
 use Rattle.lender.specs.declared.answer.AskAnswer.{AskAnswer}
@@ -32,7 +33,7 @@ voids i q l m = nat_lt (m.done q i) l && nat_lt (m.void q i) l
 abbrev pub ask_answer : (clock who place : ℕ) → Kind → (written : ℕ) → Book → AskAnswer
 ask_answer c i q k l m =
     cond (nat_lt c m.quiet) ask.Quiet
-    (cond (any (barring c i q k) m.leases) (ask.Barred (marks_of (barring c i q k) m.leases))
+    (cond (list_any (barring c i q k) m.leases) (ask.Barred (marks_of (barring c i q k) m.leases))
     (cond (nat_le (2 ^ 64) (c + m.long)) ask.Exhausted
     (cond (nat_le 4096 (count_by (running c) m.leases)) ask.Exhausted
     (ask.Granted (voids i q l m)))))
@@ -89,7 +90,7 @@ write_answer c i q n m =
     (cond (n == m.done q i && nat_lt 0 n) write.Again
     (cond (nat_le n (m.done q i)) write.Passed
     (cond (nat_le n (m.void q i)) write.Void
-    (cond (any (allowing c i q) m.leases) write.Applied write.Passed))))
+    (cond (list_any (allowing c i q) m.leases) write.Applied write.Passed))))
 
 abbrev pub applied : (who place number : ℕ) → Book → Book
 applied i q n m = record { done = at_2 q i n m.done; void = m.void; leases = m.leases; quiet = m.quiet; long = m.long }

@@ -10,7 +10,8 @@ use Rattle.message.specs.declared.kind.Kind.{Kind}
 use Rattle.message.specs.declared.kind.Kind.TheVariants.{Reading}
 use Rattle.message.specs.Format.{Msg, Ask, Loan, Write, In, Void, Recall, Back}
 use Rattle.lease.specs.declared.lease.Lease.{Lease}
-use Rattle.lease.specs.Leases.{any, running, barring, staying}
+use Rattle.lease.specs.Leases.{running, barring, staying}
+use Rattle.std.specs.List.{list_any}
 use Rattle.lender.specs.Rules.{at_2, recalls}
 use Rattle.borrower.specs.declared.hold.Part.{Part}
 use Rattle.world.specs.Runs.{Put}
@@ -118,7 +119,7 @@ module _ (S : Setting) (w : State) (inv : Inv S w) where
         go (inr (inr e)) = absurd (true≢false (sym awake ∙ e))
 
     -- A GRANT: vd is the table of void numbers afterwards
-    module _ (i q m : ℕ) (k : Kind) (n : ℕ) (asked : Memᴰ (Ask i q m k n) w.sent) (open' : any (barring (w.now.hand 0) i q k) w.keeper.leases ≡ false)
+    module _ (i q m : ℕ) (k : Kind) (n : ℕ) (asked : Memᴰ (Ask i q m k n) w.sent) (open' : list_any (barring (w.now.hand 0) i q k) w.keeper.leases ≡ false)
         (vd : ℕ → ℕ → ℕ) (void_up : (r j : ℕ) → w.keeper.void r j ≤ vd r j) (void_here : n ≤ max (w.keeper.done q i) (vd q i)) (void_known : (j r : ℕ) → Wrote (w.part j r) (w.disk j r) (vd r j)) where
       abbrev lent : Office
       lent = record { value = w.keeper.value; done = w.keeper.done; void = vd; leases = filter (running (w.now.hand 0)) w.keeper.leases ++ lease i q k m (w.now.hand 0 + S.long) ∷ []; quiet = w.keeper.quiet; up = w.keeper.up }

@@ -7,7 +7,8 @@ use Rattle.message.specs.declared.kind.Kind.{Kind}
 use Rattle.message.specs.declared.kind.Kind.TheVariants.{Reading, Writing}
 use Rattle.message.specs.Kinds.{writes}
 use Rattle.lease.specs.declared.lease.Lease.{Lease}
-use Rattle.lease.specs.Leases.{any, running, barring, allowing}
+use Rattle.lease.specs.Leases.{running, barring, allowing}
+use Rattle.std.specs.List.{list_any}
 use Rattle.lender.specs.Rules.{at_2}
 
 both_reading : (k l : Kind) → (writes k || writes l) ≡ false → (k ≡ Reading) × (l ≡ Reading)
@@ -21,16 +22,16 @@ is_writing k e h = both_ways (writes k) (ap writes h) e
 free_one : (c i q : ℕ) (k : Kind) (l : Lease) → barring c i q k l ≡ false → l.place ≡ q → (l.who ≡ i → ⊥) → c < l.until → (k ≡ Reading) × (l.kind ≡ Reading)
 free_one c i q k l h p w u = both_reading k l.kind (simp (eq-eqb l.place q p, ne_eqb l.who i w, lt-ltb c l.until u) at h)
 
-any_none : {X : Type 0} (p : X → Bool) (xs : List X) → any p xs ≡ false → (x : X) → Memᴰ x xs → p x ≡ false
+any_none : {X : Type 0} (p : X → Bool) (xs : List X) → list_any p xs ≡ false → (x : X) → Memᴰ x xs → p x ≡ false
 any_none p [] h x m = elim m [ ]
-any_none p (y ∷ xs) h x (Memᴰ.head e) = ap p e ∙ (or_parts (p y) (any p xs) h).0
-any_none p (y ∷ xs) h x (Memᴰ.tail m) = any_none p xs (or_parts (p y) (any p xs) h).1 x m
+any_none p (y ∷ xs) h x (Memᴰ.head e) = ap p e ∙ (or_parts (p y) (list_any p xs) h).0
+any_none p (y ∷ xs) h x (Memᴰ.tail m) = any_none p xs (or_parts (p y) (list_any p xs) h).1 x m
 
-any_one : {X : Type 0} (p : X → Bool) (xs : List X) → any p xs ≡ true → (x : X) × Memᴰ x xs × (p x ≡ true)
+any_one : {X : Type 0} (p : X → Bool) (xs : List X) → list_any p xs ≡ true → (x : X) × Memᴰ x xs × (p x ≡ true)
 any_one p [] h = absurd (true≢false (sym h))
-any_one p (y ∷ xs) h = go (or_cases (p y) (any p xs) h) (λ e. any_one p xs e)
+any_one p (y ∷ xs) h = go (or_cases (p y) (list_any p xs) h) (λ e. any_one p xs e)
   where
-    go : (p y ≡ true) ⊎ (any p xs ≡ true) → (any p xs ≡ true → (x : _) × Memᴰ x xs × (p x ≡ true)) → (x : _) × Memᴰ x (y ∷ xs) × (p x ≡ true)
+    go : (p y ≡ true) ⊎ (list_any p xs ≡ true) → (list_any p xs ≡ true → (x : _) × Memᴰ x xs × (p x ≡ true)) → (x : _) × Memᴰ x (y ∷ xs) × (p x ≡ true)
     go (inl e) f = (y, Memᴰ.head refl, e)
     go (inr e) f = let r = f e in (r.0, Memᴰ.tail r.1, r.2)
 
@@ -53,7 +54,7 @@ kept_was p (y ∷ xs) x m = go (p y) m (λ z. kept_was p xs x z)
     go false z f = Memᴰ.tail (f z)
 
 -- where nothing bars, another's lease of the part that runs is for reading, and so is this
-pub free : (c i q : ℕ) (k : Kind) (ls : List Lease) → any (barring c i q k) ls ≡ false → (l : Lease) → Memᴰ l ls → l.place ≡ q → (l.who ≡ i → ⊥) → c < l.until → (k ≡ Reading) × (l.kind ≡ Reading)
+pub free : (c i q : ℕ) (k : Kind) (ls : List Lease) → list_any (barring c i q k) ls ≡ false → (l : Lease) → Memᴰ l ls → l.place ≡ q → (l.who ≡ i → ⊥) → c < l.until → (k ≡ Reading) × (l.kind ≡ Reading)
 free c i q k ls h l m = free_one c i q k l (any_none (barring c i q k) ls h l m)
 
 -- a lease that lets i write
@@ -65,7 +66,7 @@ pub record Lets (c i q : ℕ) (ls : List Lease) : Type 0 where
   pub runs : c < it.until
   pub writes : writes it.kind ≡ true
 
-pub may : (c i q : ℕ) (ls : List Lease) → any (allowing c i q) ls ≡ true → Lets c i q ls
+pub may : (c i q : ℕ) (ls : List Lease) → list_any (allowing c i q) ls ≡ true → Lets c i q ls
 may c i q ls h =
     let r = any_one (allowing c i q) ls h in
     let l : Lease = r.0 in

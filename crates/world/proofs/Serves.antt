@@ -9,7 +9,8 @@ use Rattle.message.specs.Format.{Msg, Ask, Loan, Write, In, Void, Recall, Back, 
 use Rattle.message.specs.Reading.{read}
 use Rattle.journal.specs.declared.record.Owner.TheVariants as owner
 use Rattle.journal.specs.Records.{Rec, AllSound, bytes_of, records_of}
-use Rattle.lease.specs.Leases.{any, running, barring, allowing, staying}
+use Rattle.lease.specs.Leases.{running, barring, allowing, staying}
+use Rattle.std.specs.List.{list_any}
 use Rattle.lease.specs.Tables.{marks_of}
 use Rattle.lender.specs.declared.answer.AskAnswer.{AskAnswer}
 use Rattle.lender.specs.declared.answer.AskAnswer.TheVariants as ask
@@ -142,7 +143,7 @@ module _ (r : Run) (ms : List Msg) (G : Good (setting r.world) r ms) where
       abbrev Asked : AskAnswer → Type 0
       Asked a = Served K.up (after_ask c i q n k l a K.book) K.parts (ask_sends i q n k (K.parts q) a) (puts (ask_records i q l a) r.applied)
 
-      granted : K.book.quiet ≤ c → any (barring c i q k) K.book.leases ≡ false → (b : Bool) → voids i q l K.book ≡ b → Asked (ask.Granted b)
+      granted : K.book.quiet ≤ c → list_any (barring c i q k) K.book.leases ≡ false → (b : Bool) → voids i q l K.book ≡ b → Asked (ask.Granted b)
       granted loud open' true e =
           let z = and_parts (ltb (K.book.done q i) l) (ltb (K.book.void q i) l) e in
           lend_inv S V G.inv C awake loud i q n k l asked open' (at_2 q i l K.book.void)
@@ -166,7 +167,7 @@ module _ (r : Run) (ms : List Msg) (G : Good (setting r.world) r ms) where
       ask_served : Asked (ask_answer c i q k l K.book)
       ask_served =
           cond_both (ltb c K.book.quiet) ask.Quiet _ Asked (λ e. nothing_new) λ loud.
-          cond_both (any (barring c i q k) K.book.leases) (ask.Barred (marks_of (barring c i q k) K.book.leases)) _ Asked (λ e. quietly S V G.inv _ (only_recalls S V G.inv q 0 (marks_of (barring c i q k) K.book.leases))) λ open'.
+          cond_both (list_any (barring c i q k) K.book.leases) (ask.Barred (marks_of (barring c i q k) K.book.leases)) _ Asked (λ e. quietly S V G.inv _ (only_recalls S V G.inv q 0 (marks_of (barring c i q k) K.book.leases))) λ open'.
           cond_both (leb (2 ^ 64) (c + K.book.long)) ask.Exhausted _ Asked (λ e. nothing_new) λ room.
           cond_both (leb 4096 (count_by (running c) K.book.leases)) ask.Exhausted (ask.Granted (voids i q l K.book)) Asked (λ e. nothing_new) λ few.
           granted (ltb-false _ _ loud) open' (voids i q l K.book) refl
@@ -198,7 +199,7 @@ module _ (r : Run) (ms : List Msg) (G : Good (setting r.world) r ms) where
           cond_both (eqb n (K.book.done q i) && ltb 0 n) write.Again _ WroteSo (λ e. quietly S V G.inv (In i q n ∷ []) ((tt, again e, tt, λ x. x), tt)) λ other.
           cond_both (leb n (K.book.done q i)) write.Passed _ WroteSo (λ e. nothing_new) λ new.
           cond_both (leb n (K.book.void q i)) write.Void _ WroteSo (λ e. quietly S V G.inv (Void i q n ∷ []) ((tt, (omega (arith, leb-true _ _ e), not_in (leb-false _ _ new)), tt, λ x. x), tt)) λ good.
-          cond_both (any (allowing c i q) K.book.leases) write.Applied write.Passed WroteSo
+          cond_both (list_any (allowing c i q) K.book.leases) write.Applied write.Passed WroteSo
           (λ e. put_inv S V G.inv C awake (ltb-false _ _ loud) i q n v sent (leb-false _ _ new) (leb-false _ _ good) (may c i q K.book.leases e))
           (λ e. nothing_new)
 

@@ -14,7 +14,8 @@ use Rattle.message.specs.Reading.{read}
 use Rattle.message.proofs.Reading.{read_layout, read_some}
 use Rattle.message.proofs.Unique.{cut_short, distinct}
 use Rattle.lease.specs.declared.lease.Lease.{Lease}
-use Rattle.lease.specs.Leases.{any, barring, running, of_borrower}
+use Rattle.lease.specs.Leases.{barring, running, of_borrower}
+use Rattle.std.specs.List.{list_any}
 use Rattle.lease.specs.Tables.{marks_of}
 use Rattle.lender.specs.declared.answer.AskAnswer.{AskAnswer}
 use Rattle.lender.specs.declared.answer.AskAnswer.TheVariants as ask
@@ -87,12 +88,12 @@ recalls_formed q j (false ∷ bs) h l = recalls_formed q (suc j) bs h (omega ari
 
 marks_long : (p : Lease → Bool) (ls : List Lease) → length (marks_of p ls) ≡ 32
 unfolding marks_of
-marks_long p ls = length-map-range_with_len (λ w. any (of_borrower p w) ls) 0 32
+marks_long p ls = length-map-range_with_len (λ w. list_any (of_borrower p w) ls) 0 32
 
 ask_formed : (c i q n : ℕ) (k : Kind) (l : ℕ) (v : List ℕ) (b : Book) → Named i q n → length v ≡ 1024 → Each WellFormed (ask_sends i q n k v (ask_answer c i q k l b))
 ask_formed c i q n k l v b h s =
     cond_both (ltb c b.quiet) ask.Quiet _ P (λ e. tt) λ e.
-    cond_both (any (barring c i q k) b.leases) (ask.Barred (marks_of (barring c i q k) b.leases)) _ P (λ e. recalls_formed q 0 (marks_of (barring c i q k) b.leases) h.1 (omega (arith, marks_long (barring c i q k) b.leases))) λ e.
+    cond_both (list_any (barring c i q k) b.leases) (ask.Barred (marks_of (barring c i q k) b.leases)) _ P (λ e. recalls_formed q 0 (marks_of (barring c i q k) b.leases) h.1 (omega (arith, marks_long (barring c i q k) b.leases))) λ e.
     cond_both (leb (2 ^ 64) (c + b.long)) ask.Exhausted _ P (λ e. tt) λ e.
     cond_both (leb 4096 (count_by (running c) b.leases)) ask.Exhausted (ask.Granted (voids i q l b)) P (λ e. tt) λ e. ((h, s), tt)
   where

@@ -1,5 +1,5 @@
 ghost use Rattle.std.specs.Prelude.{◌≡◌, []};
-ghost use Rattle.journal.specs.Memory.{file_of, disk_of};
+ghost use Rattle.journal.specs.Memory.{disk_of};
 
 use crate::store::memory::MemoryStore;
 use crate::store::{Store, StoreError};
@@ -15,7 +15,7 @@ pub struct FailingStore {
 impl FailingStore {
     /// An empty file on which so many calls are done, and every later one fails.
     pub fn new(heap: Global, left: usize) -> FailingStore
-        ensures empty { file_of result.file ≡ [] }
+        ensures empty { (disk_of result.file).appended ≡ [] }
         ensures calls { result.left ≡ left }
     {
         FailingStore {
@@ -24,45 +24,34 @@ impl FailingStore {
         }
     }
 
-    // Counts a call: whether it fails.
-    fn fails(&mut self) -> bool
+    // Counts a call, which fails where none is left.
+    fn count(&mut self) -> Result<(), StoreError>
         ensures { self.new.file ≡ self.old.file }
     {
-        if self.left == 0 {
-            return true;
-        }
-        self.left -= 1;
-        false
+        self.left = self.left.checked_sub(1).ok_or(StoreError::Failed)?;
+        Ok(())
     }
 }
 
 impl Store for FailingStore {
-    ghost appended = { λ s. file_of s.file };
-
-    ghost synced = { λ s. disk_of s.file };
+    ghost disk = { λ s. disk_of s.file };
 
     fn content(&self) -> &[u8] {
         self.file.content()
     }
 
     fn append(&mut self, bytes: &[u8]) -> Result<(), StoreError> {
-        if self.fails() {
-            return Err(StoreError::Failed);
-        }
+        self.count()?;
         self.file.append(bytes)
     }
 
     fn sync(&mut self) -> Result<(), StoreError> {
-        if self.fails() {
-            return Err(StoreError::Failed);
-        }
+        self.count()?;
         self.file.sync()
     }
 
     fn truncate(&mut self, size: usize) -> Result<(), StoreError> {
-        if self.fails() {
-            return Err(StoreError::Failed);
-        }
+        self.count()?;
         self.file.truncate(size)
     }
 }

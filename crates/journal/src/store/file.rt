@@ -1,5 +1,5 @@
 ghost use Rattle.std.specs.Prelude.{◌≡◌, ◌≤◌, length, IfOk};
-ghost use Rattle.journal.specs.Memory.{file_of, disk_of};
+ghost use Rattle.journal.specs.Memory.{disk_of};
 
 use crate::store::memory::MemoryStore;
 use crate::store::{Store, StoreError};
@@ -18,10 +18,9 @@ pub struct FileStore {
 
 // Brings the folder of a file to the disk, so that the file's name is there after a stop.
 fn sync_folder(rt: &HostRuntime, path: &str) -> io::Result<()> {
-    let folder = match Path::new(path).parent() {
-        Some(folder) => folder.as_str(),
-        None => "",
-    };
+    let folder = Path::new(path)
+        .parent()
+        .map_or("", |folder| folder.as_str());
     let folder = if folder.is_empty() { "." } else { folder };
     File::open(rt, folder)?.sync_all()
 }
@@ -51,7 +50,7 @@ fn put(file: &mut File, bytes: &[u8]) -> usize
 impl FileStore {
     /// Opens a file, or makes it, and reads it. What was read is synced, and so is its name in its folder.
     pub fn open(rt: &HostRuntime, path: &str) -> io::Result<FileStore>
-        ensures { IfOk result (λ s. disk_of s.taken ≡ file_of s.taken) }
+        ensures { IfOk result (λ s. (disk_of s.taken).synced ≡ (disk_of s.taken).appended) }
     {
         let mut how = OpenOptions::new();
         how.read(true).append(true).create(true);
@@ -68,9 +67,7 @@ impl FileStore {
 }
 
 impl Store for FileStore {
-    ghost appended = { λ s. file_of s.taken };
-
-    ghost synced = { λ s. disk_of s.taken };
+    ghost disk = { λ s. disk_of s.taken };
 
     fn content(&self) -> &[u8] {
         self.taken.content()
@@ -87,17 +84,15 @@ impl Store for FileStore {
     }
 
     fn sync(&mut self) -> Result<(), StoreError> {
-        let Ok(()) = self.file.sync_data() else {
-            return Err(StoreError::Failed);
-        };
+        self.file.sync_data().map_err(|_| StoreError::Failed)?;
         self.taken.sync()
     }
 
     fn truncate(&mut self, size: usize) -> Result<(), StoreError> {
         let end = size.min(self.taken.content().len());
-        let Ok(()) = self.file.set_len(end as u64) else {
-            return Err(StoreError::Failed);
-        };
+        self.file
+            .set_len(end as u64)
+            .map_err(|_| StoreError::Failed)?;
         self.taken.truncate(size)
     }
 }

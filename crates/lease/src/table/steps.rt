@@ -1,18 +1,32 @@
-ghost use Rattle.std.specs.Prelude.{◌≡◌, [], ◌∷◌, ◌++◌, IfOk, if◌then◌else◌, count_by, filter, nat_lt};
-ghost use Rattle.lease.specs.Leases.{any, running, barring, allowing, staying};
+ghost use Rattle.std.specs.Prelude.{◌≡◌, [], ◌∷◌, ◌++◌, is_ok, IfOk, IfErr, if◌then◌else◌, count_by, filter, nat_lt};
+ghost use Rattle.std.specs.List.{list_any};
+ghost use Rattle.lease.specs.Leases.{running, barring, allowing, staying};
 ghost use Rattle.lease.specs.Tables.{leases, marks_of};
 
 use crate::lease::Lease;
 use crate::table::Table;
-use crate::table::search::{count, keep, marks, some};
-use crate::test::{Allows, Bars, Runs, Stays};
-use message::kind::Kind;
-use part::place::Place;
-use part::who::Who;
+use message::form::Ask;
+use message::refusal::Refusal;
+use part::head::Head;
 use std::alloc::{AllocError, Global};
 
 /// How many leases may run at once.
 pub const MOST: usize = 4096;
+
+// Which of the 32 borrowers have a lease that stands in the way of a loan.
+// A loop over the leases stays: a search of the whole table for each borrower would look at each lease 32 times.
+fn marks(leases: &[Lease], clock: u64, ask: &Ask) -> [bool; 32]
+    ensures { result ≡ marks_of (barring clock ask.now.head.who.id ask.now.head.place.at ask.now.kind) leases.now }
+{
+    let mut marks = [false; 32];
+    for l in leases {
+        let w = l.who as usize;
+        if w < 32 && l.bars(clock, ask) {
+            marks[w] = true;
+        }
+    }
+    marks
+}
 
 impl Table {
     /// No leases, and memory for all that may run.
@@ -24,58 +38,59 @@ impl Table {
     }
 
     /// Whether some lease stands in the way of a loan.
-    pub fn bars(&self, clock: u64, who: Who, place: Place, kind: Kind) -> bool
-        ensures { result ≡ any (barring clock who.id place.at kind) (leases self.now) }
+    pub fn bars(&self, clock: u64, ask: &Ask) -> bool
+        ensures { result ≡ list_any (barring clock ask.now.head.who.id ask.now.head.place.at ask.now.kind) (leases self.now) }
     {
-        some(&self.leases, &Bars::of(clock, who, place, kind))
+        self.leases.iter().any(|l| l.bars(clock, ask))
     }
 
     /// Which borrowers have a lease that stands in the way of a loan.
-    pub fn barring(&self, clock: u64, who: Who, place: Place, kind: Kind) -> [bool; 32]
-        ensures { result ≡ marks_of (barring clock who.id place.at kind) (leases self.now) }
+    pub fn barring(&self, clock: u64, ask: &Ask) -> [bool; 32]
+        ensures { result ≡ marks_of (barring clock ask.now.head.who.id ask.now.head.place.at ask.now.kind) (leases self.now) }
     {
-        marks(&self.leases, &Bars::of(clock, who, place, kind))
+        marks(&self.leases, clock, ask)
     }
 
     /// Whether a borrower may write a part.
-    pub fn allows(&self, clock: u64, who: Who, place: Place) -> bool
-        ensures { result ≡ any (allowing clock who.id place.at) (leases self.now) }
+    pub fn allows(&self, clock: u64, write: &Head) -> bool
+        ensures { result ≡ list_any (allowing clock write.now.who.id write.now.place.at) (leases self.now) }
     {
-        some(&self.leases, &Allows { clock, who, place })
+        self.leases.iter().any(|l| l.allows(clock, write))
     }
 
     /// How many leases run.
     pub fn running(&self, clock: u64) -> usize
         ensures { result ≡ count_by (running clock) (leases self.now) }
     {
-        count(&self.leases, &Runs { clock })
+        self.leases.iter().filter(|l| l.runs(clock)).count()
     }
 
     // Drops the leases that no longer run.
     fn expire(&mut self, clock: u64)
         ensures { leases self.new ≡ filter (running clock) (leases self.old) }
     {
-        keep(&mut self.leases, &Runs { clock });
+        self.leases.retain(|l| l.runs(clock));
     }
 
-    /// Drops the leases that no longer run and adds one, or, where 4,096 run, says false and changes nothing.
-    pub fn grant(&mut self, clock: u64, lease: Lease) -> bool
-        ensures answer { result ≡ nat_lt (count_by (running clock) (leases self.old)) 4096 }
-        ensures after { leases self.new ≡ (if result then filter (running clock) (leases self.old) ++ lease ∷ [] else leases self.old) }
+    /// Drops the leases that no longer run and adds one; where 4,096 run, that is refused and changes nothing.
+    pub fn grant(&mut self, clock: u64, lease: Lease) -> Result<(), Refusal>
+        ensures answer { is_ok result ≡ nat_lt (count_by (running clock) (leases self.old)) 4096 }
+        ensures after { leases self.new ≡ (if is_ok result then filter (running clock) (leases self.old) ++ lease ∷ [] else leases self.old) }
+        ensures why { IfErr result (λ e. e ≡ Refusal.Exhausted) }
     {
         if self.running(clock) >= MOST {
-            return false;
+            return Err(Refusal::Exhausted);
         }
         self.expire(clock);
         self.leases.push_reserved(lease);
-        true
+        Ok(())
     }
 
     /// Ends the leases of a part to a borrower for asks up to this number.
-    pub fn end(&mut self, who: Who, place: Place, number: u32)
-        ensures { leases self.new ≡ filter (staying who.id place.at number) (leases self.old) }
+    pub fn end(&mut self, back: &Head)
+        ensures { leases self.new ≡ filter (staying back.now.who.id back.now.place.at back.now.number) (leases self.old) }
     {
-        keep(&mut self.leases, &Stays { who, place, number });
+        self.leases.retain(|l| l.stays(back));
     }
 
     /// Ends every lease.

@@ -1,16 +1,17 @@
-use Rattle.std.proofs.Common.{◌≡◌, ℕ, List, ◌++◌, Option, sym, ap, ◌∙◌, append-nil}
+use Rattle.std.proofs.Common.{Option, OnOk, subst, sym}
 use Rattle.journal.specs.declared.record.Record.{Record}
-use Rattle.journal.specs.Records.{recorded, layout, bytes_of}
-use Rattle.journal.specs.Logs.{logged}
+use Rattle.journal.specs.Records.{recorded}
+use Rattle.journal.specs.Logs.{Logged, logged}
+use Rattle.journal.proofs.Saves.{logged_by, none_logged}
 use Rattle.journal.proofs.log.log.Goals as goal
 
-pub returns : goal.returns
-returns g c =
-    let r = recorded c.args.part.now c.in-Some.record in
-    let rs : layout r ≡ bytes_of (logged c.args.part.now c.args.record) =
-    sym (append-nil (layout r)) ∙ ap (λ (o : Option Record). bytes_of (logged c.args.part.now o)) (sym c.in-Some.is) in
-    let d = c.in_ok-commit_record.ensures in
-    record {
-      grown = d.grown ∙ ap (λ (q : List ℕ). g.S.Store.appended c.args.store.now ++ q) rs;
-      synced = λ _. d.saved;
-    }
+pub returns-in-Some : goal.returns-in-Some
+returns-in-Some g c =
+    let P : Option Record → Type 0 = λ o. OnOk c.commit_record.result
+    (Logged (logged c.args.part.now o) (g.S.Store.disk c.args.store.now) (g.S.Store.disk c.commit_record.new.store)) in
+    subst P (sym c.in-Some.is) (logged_by _ _ (recorded c.args.part.now c.in-Some.«record») c.commit_record.result c.commit_record.ensures.committed)
+
+pub returns-in-None : goal.returns-in-None
+returns-in-None g c =
+    let P : Option Record → Type 0 = λ o. Logged (logged c.args.part.now o) (g.S.Store.disk c.args.store.now) (g.S.Store.disk c.args.store.now) in
+    subst P (sym c.in-None.is) (none_logged (g.S.Store.disk c.args.store.now))

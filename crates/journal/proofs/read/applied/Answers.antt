@@ -5,6 +5,6 @@ use Rattle.journal.proofs.read.applied.Goals as goal
 pub returns : goal.returns
 returns c =
     let ys = c.args.body.now in
-    let h = c.in-Some.ensures in
+    let h = rw c.in_ok-head.ensures.ok_part at c.read.ensures in
     let l = part_long ys (omega arith) in
     record { sound = ((h.named, l), tt); long = omega arith; is = applied_is ys _ _ _ (omega arith) h.is }

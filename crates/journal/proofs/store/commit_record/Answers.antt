@@ -1,6 +1,6 @@
 use Rattle.std.proofs.Common.{ℕ, List, refl, subst}
 use Rattle.journal.specs.Records.{recorded, layout}
-use Rattle.journal.specs.Stores.{Grown}
+use Rattle.journal.specs.Stores.{Committed}
 use Rattle.journal.proofs.Saves.{front_is}
 use Rattle.journal.proofs.store.commit_record.Goals as goal
 
@@ -8,9 +8,8 @@ pub returns : goal.returns
 returns g c =
     let e = c.in-Some.ensures in
     let lay : List ℕ = layout (recorded c.args.part.now c.args.«record».now) in
-    let P : List ℕ → Type 0 = λ q. Grown (g.S.Store.appended c.args.store.now) q (g.S.Store.appended c.commit.new.store) c.commit.result in
+    let P : List ℕ → Type 0 = λ q. Committed (g.S.Store.disk c.args.store.now) q (g.S.Store.disk c.commit.new.store) c.commit.result in
     record {
       formed = e.formed refl;
-      grown = subst P (front_is c.in-Some.size c.encode.new.out lay _ e.wrote.0 e.wrote.1) c.commit.ensures.grown;
-      saved = c.commit.ensures.saved;
+      committed = subst P (front_is c.in-Some.size c.encode.new.out lay _ e.wrote.0 e.wrote.1) c.commit.ensures;
     }

@@ -1,5 +1,5 @@
 ghost use Rattle.std.specs.Prelude.{◌≡◌, ◌≤◌, true, [], ◌++◌, length, take, is_ok};
-ghost use Rattle.journal.specs.Memory.{file_of, disk_of, room_of};
+ghost use Rattle.journal.specs.Memory.{disk_of, room_of};
 
 use crate::store::memory::MemoryStore;
 use crate::store::{Store, StoreError};
@@ -8,7 +8,7 @@ use std::alloc::Global;
 impl MemoryStore {
     /// An empty file.
     pub fn new(heap: Global) -> MemoryStore
-        ensures { file_of result ≡ [] }
+        ensures { (disk_of result).appended ≡ [] }
     {
         MemoryStore {
             bytes: Vec::new(heap),
@@ -18,8 +18,8 @@ impl MemoryStore {
 
     /// A file that holds these bytes, synced.
     pub fn holding(bytes: Vec<u8>) -> MemoryStore
-        ensures file { file_of result ≡ bytes.items }
-        ensures disk { disk_of result ≡ bytes.items }
+        ensures file { (disk_of result).appended ≡ bytes.items }
+        ensures disk { (disk_of result).synced ≡ bytes.items }
     {
         let synced = bytes.len();
         MemoryStore { bytes, synced }
@@ -28,20 +28,17 @@ impl MemoryStore {
     /// Makes room for so many bytes more.
     pub fn reserve(&mut self, more: usize) -> Result<(), StoreError>
         ensures room { is_ok result ≡ true → more ≤ room_of self.new }
-        ensures file { file_of self.new ≡ file_of self.old }
         ensures disk { disk_of self.new ≡ disk_of self.old }
     {
-        match self.bytes.reserve(more) {
-            Ok(()) => Ok(()),
-            Err(_) => Err(StoreError::NoMemory),
-        }
+        self.bytes.reserve(more)?;
+        Ok(())
     }
 
     // Appends bytes that there is room for.
     pub(crate) fn extend(&mut self, bytes: &[u8])
         requires { length bytes.now ≤ room_of self.old }
-        ensures file { file_of self.new ≡ file_of self.old ++ bytes.now }
-        ensures disk { disk_of self.new ≡ disk_of self.old }
+        ensures file { (disk_of self.new).appended ≡ (disk_of self.old).appended ++ bytes.now }
+        ensures disk { (disk_of self.new).synced ≡ (disk_of self.old).synced }
     {
         let Ok(()) = self.bytes.extend_from_slice(bytes) else {
             unreachable()
@@ -50,8 +47,8 @@ impl MemoryStore {
 
     /// Keeps so many of the file's first bytes.
     pub fn cut(&mut self, size: usize)
-        ensures file { file_of self.new ≡ take size (file_of self.old) }
-        ensures disk { disk_of self.new ≡ take size (disk_of self.old) }
+        ensures file { (disk_of self.new).appended ≡ take size (disk_of self.old).appended }
+        ensures disk { (disk_of self.new).synced ≡ take size (disk_of self.old).synced }
     {
         self.bytes.truncate(size);
         self.synced = self.synced.min(size);
@@ -59,9 +56,7 @@ impl MemoryStore {
 }
 
 impl Store for MemoryStore {
-    ghost appended = { file_of };
-
-    ghost synced = { disk_of };
+    ghost disk = { disk_of };
 
     fn content(&self) -> &[u8] {
         self.bytes.as_slice()
