@@ -1,14 +1,15 @@
--- The numbers of one part with one of them changed.
+-- The numbers of one part.
 -- Assumes nothing.
-use Rattle.std.specs.Prelude.{ℕ, replicate, slice_set}
+use Rattle.std.specs.Prelude.{ℕ, replicate, slice_index_or}
+use Rattle.lender.specs.declared.numbers.Counts.{Counts}
 use Rattle.lender.specs.declared.numbers.Numbers.{Numbers}
 
 -- no write is applied, and none is void
+abbrev pub no_counts : Counts
+no_counts = record { done = 0; voided = 0 }
+
 abbrev pub no_numbers : Numbers
-no_numbers = record { done = replicate 32 0; voided = replicate 32 0 }
+no_numbers = record { counts = replicate 32 no_counts }
 
-abbrev pub with_done : (who number : ℕ) → Numbers → Numbers
-with_done w n k = record { done = slice_set k.done w n; voided = k.voided }
-
-abbrev pub with_void : (who number : ℕ) → Numbers → Numbers
-with_void w n k = record { done = k.done; voided = slice_set k.voided w n }
+abbrev pub counts_at : Numbers → ℕ → Counts
+counts_at k i = slice_index_or k.counts i no_counts

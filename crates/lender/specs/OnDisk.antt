@@ -2,12 +2,12 @@
 -- Assumes nothing.
 use Rattle.std.specs.Prelude.{◌≡◌, ℕ, List, Ok, Err, Result}
 use Rattle.journal.specs.declared.record.Owner.TheVariants as owner
+use Rattle.journal.specs.declared.replay.OpenError.{OpenError}
 use Rattle.journal.specs.declared.replay.OpenError.TheVariants as why
 use Rattle.journal.specs.Records.{records_of, bytes_of}
 use Rattle.journal.specs.Reading.{Refused}
+use Rattle.journal.specs.Stores.{Disk}
 use Rattle.lender.specs.declared.keeper.Keeper.{Keeper}
-use Rattle.lender.specs.declared.keeper.NoKeeper.{NoKeeper}
-use Rattle.lender.specs.declared.keeper.NoKeeper.TheVariants as no
 use Rattle.lender.specs.Book.{keeper_book, keeper_parts}
 use Rattle.lender.specs.Replay.{Memory, memory, replay, nothing}
 
@@ -21,8 +21,9 @@ OnDisk k file = Holds (memory (keeper_book k) (keeper_parts k)) file
 
 -- what opening gives: a keeper whose memory is what the whole records of its journal make, all of it on disk;
 -- a journal with something else in it is refused, and left as it was
-abbrev pub OpenedAs : (was is disk_was disk : List ℕ) (long : ℕ) → Result Keeper NoKeeper → Type 0
-OpenedAs was is d d' l (Ok k) = OnDisk k is × (is ≡ bytes_of (records_of owner.Keeper was)) × (d' ≡ is) × ((keeper_book k).long ≡ l)
-OpenedAs was is d d' l (Err no.NoMemory) = (is ≡ was) × (d' ≡ d)
-OpenedAs was is d d' l (Err (no.NoJournal why.Malformed)) = Refused owner.Keeper was × (is ≡ was) × (d' ≡ d)
-OpenedAs was is d d' l (Err (no.NoJournal (why.Store e))) = Unit {0}
+abbrev pub OpenedAs : (was is : Disk) (long : ℕ) → Result Keeper OpenError → Type 0
+OpenedAs was is l (Ok k) =
+    OnDisk k is.appended × (is.appended ≡ bytes_of (records_of owner.Keeper was.appended)) × (is.synced ≡ is.appended) × ((keeper_book k).long ≡ l)
+OpenedAs was is l (Err why.NoMemory) = (is.appended ≡ was.appended) × (is.synced ≡ was.synced)
+OpenedAs was is l (Err why.Malformed) = Refused owner.Keeper was.appended × (is.appended ≡ was.appended) × (is.synced ≡ was.synced)
+OpenedAs was is l (Err (why.Store e)) = Unit {0}

@@ -1,5 +1,4 @@
 use crate::lender::Lender;
-use journal::replay::OpenError;
 use part::files::Files;
 
 pub mod open;
@@ -10,13 +9,4 @@ pub mod serve;
 pub struct Keeper {
     lender: Lender,
     files: Files,
-}
-
-/// Why there is no keeper.
-#[derive(Clone, Copy)]
-pub enum NoKeeper {
-    /// there is no memory for the parts
-    NoMemory,
-    /// its journal could not be opened
-    NoJournal(OpenError),
 }

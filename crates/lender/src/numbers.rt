@@ -1,13 +1,19 @@
-ghost use Rattle.std.specs.Prelude.{◌≡◌, slice_index};
-ghost use Rattle.lender.specs.Numbering.{no_numbers, with_done, with_void};
+ghost use Rattle.std.specs.Prelude.{◌≡◌, slice_set};
+ghost use Rattle.lender.specs.Numbering.{no_numbers, counts_at};
 
 use part::who::Who;
 
-/// Of one part, by borrower: the number of the last write applied, and the number up to which writes are void.
-#[derive(Clone, Copy)]
+/// Of one part and one borrower: the number of the last write applied, and the number up to which writes are void.
+#[derive(Clone, Copy, Debug, PartialEq, Eq)]
+pub struct Counts {
+    pub done: u32,
+    pub voided: u32,
+}
+
+/// The numbers of one part, by borrower.
+#[derive(Clone, Copy, Debug, PartialEq, Eq)]
 pub struct Numbers {
-    pub done: [u32; 32],
-    pub voided: [u32; 32],
+    pub counts: [Counts; 32],
 }
 
 impl Numbers {
@@ -16,38 +22,22 @@ impl Numbers {
         ensures { result ≡ no_numbers }
     {
         Numbers {
-            done: [0; 32],
-            voided: [0; 32],
+            counts: [Counts { done: 0, voided: 0 }; 32],
         }
     }
 
-    /// The number of the borrower's last write applied.
-    pub fn done_of(&self, who: Who) -> u32
-        ensures { result ≡ slice_index self.now.done who.id }
+    /// The numbers of a borrower.
+    pub fn of(&self, who: Who) -> Counts
+        ensures { result ≡ counts_at self.now who.id }
     {
-        self.done[who.id as usize]
+        self.counts[who.id as usize]
     }
 
-    /// The number up to which the borrower's writes are void.
-    pub fn void_of(&self, who: Who) -> u32
-        ensures { result ≡ slice_index self.now.voided who.id }
+    /// A borrower has these numbers from now on.
+    pub fn set(&mut self, who: Who, counts: Counts)
+        ensures whole { self.new.counts ≡ slice_set self.old.counts who.id counts }
+        ensures here { counts_at self.new who.id ≡ counts }
     {
-        self.voided[who.id as usize]
-    }
-
-    /// The borrower's write of this number is applied.
-    pub fn apply(&mut self, who: Who, number: u32)
-        ensures whole { self.new ≡ with_done who.id number self.old }
-        ensures here { slice_index self.new.done who.id ≡ number }
-    {
-        self.done[who.id as usize] = number;
-    }
-
-    /// The borrower's writes up to this number are void.
-    pub fn void(&mut self, who: Who, number: u32)
-        ensures whole { self.new ≡ with_void who.id number self.old }
-        ensures here { slice_index self.new.voided who.id ≡ number }
-    {
-        self.voided[who.id as usize] = number;
+        self.counts[who.id as usize] = counts;
     }
 }

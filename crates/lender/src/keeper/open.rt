@@ -5,10 +5,10 @@ ghost use Rattle.lender.specs.Rules.{fresh};
 ghost use Rattle.lender.specs.Replay.{Redone};
 ghost use Rattle.lender.specs.OnDisk.{OpenedAs};
 
-use crate::keeper::{Keeper, NoKeeper};
+use crate::keeper::Keeper;
 use crate::lender::Lender;
 use journal::record::{Owner, Record};
-use journal::replay::{Journaled, open};
+use journal::replay::{Journaled, OpenError, open};
 use journal::store::Store;
 use part::files::Files;
 use std::alloc::{AllocError, Global};
@@ -18,24 +18,19 @@ impl Keeper {
     pub fn new(heap: Global, long: u64) -> Result<Keeper, AllocError>
         ensures { IfOk result (λ k. (keeper_book k ≡ fresh long) × (keeper_parts k ≡ blank)) }
     {
-        let lender = Lender::new(heap, long)?;
-        let files = Files::new(heap)?;
-        Ok(Keeper { lender, files })
+        Ok(Keeper {
+            lender: Lender::new(heap, long)?,
+            files: Files::new(heap)?,
+        })
     }
-}
 
-impl Keeper {
     /// A keeper from its journal, which is cut after its last whole record. It is not up before `come_up`.
-    pub fn open<S: Store>(heap: Global, long: u64, store: &mut S) -> Result<Keeper, NoKeeper>
-        ensures { OpenedAs (S.appended store.old) (S.appended store.new) (S.synced store.old) (S.synced store.new) long result }
+    pub fn open<S: Store>(heap: Global, long: u64, store: &mut S) -> Result<Keeper, OpenError>
+        ensures { OpenedAs (S.disk store.old) (S.disk store.new) long result }
     {
-        let Ok(mut keeper) = Keeper::new(heap, long) else {
-            return Err(NoKeeper::NoMemory);
-        };
-        match open(Owner::Keeper, store, &mut keeper) {
-            Ok(()) => Ok(keeper),
-            Err(why) => Err(NoKeeper::NoJournal(why)),
-        }
+        let mut keeper = Keeper::new(heap, long)?;
+        open(Owner::Keeper, store, &mut keeper)?;
+        Ok(keeper)
     }
 }
 
@@ -48,7 +43,7 @@ impl Journaled for Keeper {
                 self.files.write(head.place, part);
                 self.lender.set_done(head);
             }
-            Record::VoidUpTo(head) => self.lender.set_void(head.who, head.place, head.number),
+            Record::VoidUpTo(head) => self.lender.set_void(head),
             Record::Numbers { .. } => {}
         }
     }

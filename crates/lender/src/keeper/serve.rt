@@ -1,4 +1,4 @@
-ghost use Rattle.std.specs.Prelude.{◌≡◌, ℕ, ◌+◌, ◌^◌, List, IfOk, if◌then◌else◌, OnOk, nat_lt};
+ghost use Rattle.std.specs.Prelude.{◌≡◌, ℕ, ◌+◌, ◌^◌, List, is_ok, IfOk, IfErr, if◌then◌else◌, OnOk, nat_lt};
 ghost use Rattle.message.specs.Reading.{read};
 ghost use Rattle.journal.specs.Logs.{Logged};
 ghost use Rattle.lender.specs.Book.{keeper_book, keeper_parts};
@@ -11,6 +11,7 @@ use crate::keeper::Keeper;
 use journal::log::log;
 use journal::record::Record;
 use journal::store::{Store, StoreError};
+use message::refusal::Refusal;
 use part::place::Place;
 
 // The part that a record is about.
@@ -18,17 +19,17 @@ fn place_in(record: Record) -> Place
     ensures { result.at ≡ place_in «record» }
 {
     match record {
-        Record::Applied(head) => head.place,
-        Record::VoidUpTo(head) => head.place,
+        Record::Applied(head) | Record::VoidUpTo(head) => head.place,
         Record::Numbers { place, .. } => place,
     }
 }
 
 impl Keeper {
-    /// Comes up: no leases, and a grace period; false, and nothing changes, where that would pass 64 bits.
-    pub fn come_up(&mut self, clock: u64) -> bool
-        ensures answer { result ≡ nat_lt (clock + (keeper_book self.old).long) (2 ^ 64) }
-        ensures book { keeper_book self.new ≡ (if result then risen clock (keeper_book self.old) else keeper_book self.old) }
+    /// Comes up: no leases, and a grace period; refused, and nothing changes, where that would pass 64 bits.
+    pub fn come_up(&mut self, clock: u64) -> Result<(), Refusal>
+        ensures answer { is_ok result ≡ nat_lt (clock + (keeper_book self.old).long) (2 ^ 64) }
+        ensures why { IfErr result (λ e. e ≡ Refusal.Exhausted) }
+        ensures book { keeper_book self.new ≡ (if is_ok result then risen clock (keeper_book self.old) else keeper_book self.old) }
         ensures parts { keeper_parts self.new ≡ keeper_parts self.old }
         ensures disk { (file : List ℕ) → OnDisk self.old file → OnDisk self.new file }
     {
@@ -53,7 +54,7 @@ impl Keeper {
 
     // Appends the record of a reply, if there is one, and syncs.
     fn log<S: Store>(&self, store: &mut S, record: Option<Record>) -> Result<(), StoreError>
-        ensures { OnOk result (Logged (recorded_by (keeper_parts self.now) «record») (S.appended store.old) (S.synced store.old) (S.appended store.new) (S.synced store.new)) }
+        ensures { OnOk result (Logged (recorded_by (keeper_parts self.now) «record») (S.disk store.old) (S.disk store.new)) }
     {
         match record {
             None => Ok(()),
@@ -71,8 +72,8 @@ impl Keeper {
         ensures effect { IfOk result (λ reply. effect (keeper_parts self.new) reply ≡ heard_effect clock (read bytes.now) (keeper_book self.old) (keeper_parts self.old)) }
         ensures book { keeper_book self.new ≡ heard_book clock (read bytes.now) (keeper_book self.old) }
         ensures parts { keeper_parts self.new ≡ heard_parts clock (read bytes.now) (keeper_book self.old) (keeper_parts self.old) }
-        ensures logged { OnOk result (Logged (heard_effect clock (read bytes.now) (keeper_book self.old) (keeper_parts self.old)).records (S.appended store.old) (S.synced store.old) (S.appended store.new) (S.synced store.new)) }
-        ensures disk { OnOk result (OnDisk self.old (S.appended store.old) → OnDisk self.new (S.appended store.new)) }
+        ensures logged { OnOk result (Logged (heard_effect clock (read bytes.now) (keeper_book self.old) (keeper_parts self.old)).records (S.disk store.old) (S.disk store.new)) }
+        ensures disk { OnOk result (OnDisk self.old (S.disk store.old).appended → OnDisk self.new (S.disk store.new).appended) }
     {
         let reply = self.receive(clock, bytes);
         self.log(store, reply.record)?;

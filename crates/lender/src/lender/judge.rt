@@ -1,30 +1,23 @@
 ghost use Rattle.std.specs.Prelude.{◌≡◌, ◌+◌, count_by};
 ghost use Rattle.lease.specs.Leases.{running};
-ghost use Rattle.lender.specs.Book.{book, done_of, void_of};
+ghost use Rattle.lender.specs.Book.{book};
 ghost use Rattle.lender.specs.Rules.{ask_answer, write_answer};
 ghost use Rattle.lender.specs.Room.{Room};
 
 use crate::answer::{AskAnswer, WriteAnswer};
 use crate::lender::Lender;
+use crate::numbers::Counts;
 use lease::table::steps::MOST;
-use message::kind::Kind;
+use message::form::Ask;
 use part::head::Head;
-use part::place::Place;
-use part::who::Who;
 
 impl Lender {
-    // The last write of a borrower that was applied to a part.
-    fn done(&self, who: Who, place: Place) -> u32
-        ensures { result ≡ (book self.now).done place.at who.id }
+    // The last write of a borrower that was applied to a part, and the last that is void.
+    fn counts(&self, head: &Head) -> Counts
+        ensures done { result.done ≡ (book self.now).done head.now.place.at head.now.who.id }
+        ensures voided { result.voided ≡ (book self.now).void head.now.place.at head.now.who.id }
     {
-        self.numbers[place.at as usize].done_of(who)
-    }
-
-    // The last write of a borrower to a part that is void.
-    fn voided(&self, who: Who, place: Place) -> u32
-        ensures { result ≡ (book self.now).void place.at who.id }
-    {
-        self.numbers[place.at as usize].void_of(who)
+        self.numbers[head.place.at as usize].of(head.who)
     }
 
     /// What is to come of a write.
@@ -34,17 +27,17 @@ impl Lender {
         if clock < self.quiet {
             return WriteAnswer::Quiet;
         }
-        let done = self.done(head.who, head.place);
+        let Counts { done, voided } = self.counts(&head);
         if head.number == done && head.number > 0 {
             return WriteAnswer::Again;
         }
         if head.number <= done {
             return WriteAnswer::Passed;
         }
-        if head.number <= self.voided(head.who, head.place) {
+        if head.number <= voided {
             return WriteAnswer::Void;
         }
-        if self.table.allows(clock, head.who, head.place) {
+        if self.table.allows(clock, &head) {
             WriteAnswer::Applied
         } else {
             WriteAnswer::Passed
@@ -52,25 +45,22 @@ impl Lender {
     }
 
     /// What is to come of an ask.
-    pub fn judge_ask(&self, clock: u64, head: Head, kind: Kind, written: u32) -> AskAnswer
-        ensures is { result ≡ ask_answer clock head.who.id head.place.at kind written (book self.now) }
+    pub fn judge_ask(&self, clock: u64, ask: &Ask) -> AskAnswer
+        ensures is { result ≡ ask_answer clock ask.now.head.who.id ask.now.head.place.at ask.now.kind ask.now.written (book self.now) }
         ensures room { Room (clock + self.now.long) (count_by (running clock) (book self.now).leases) result }
     {
         if clock < self.quiet {
             return AskAnswer::Quiet;
         }
-        if self.table.bars(clock, head.who, head.place, kind) {
-            let by = self.table.barring(clock, head.who, head.place, kind);
+        if self.table.bars(clock, ask) {
+            let by = self.table.barring(clock, ask);
             return AskAnswer::Barred { by };
         }
-        if u64::MAX - self.long < clock {
+        if u64::MAX - self.long < clock || self.table.running(clock) >= MOST {
             return AskAnswer::Exhausted;
         }
-        if self.table.running(clock) >= MOST {
-            return AskAnswer::Exhausted;
-        }
-        let voids = self.done(head.who, head.place) < written
-            && self.voided(head.who, head.place) < written;
+        let Counts { done, voided } = self.counts(&ask.head);
+        let voids = done < ask.written && voided < ask.written;
         AskAnswer::Granted { voids }
     }
 }

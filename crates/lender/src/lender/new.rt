@@ -1,10 +1,11 @@
-ghost use Rattle.std.specs.Prelude.{◌≡◌, ◌+◌, ◌^◌, IfOk, if◌then◌else◌, nat_lt};
+ghost use Rattle.std.specs.Prelude.{◌≡◌, ◌+◌, ◌^◌, is_ok, IfOk, IfErr, if◌then◌else◌, nat_lt};
 ghost use Rattle.lender.specs.Book.{book};
 ghost use Rattle.lender.specs.Rules.{fresh, risen};
 
 use crate::lender::Lender;
 use crate::numbers::Numbers;
 use lease::table::Table;
+use message::refusal::Refusal;
 use std::alloc::{AllocError, Global};
 
 impl Lender {
@@ -12,27 +13,23 @@ impl Lender {
     pub fn new(heap: Global, long: u64) -> Result<Lender, AllocError>
         ensures { IfOk result (λ k. book k ≡ fresh long) }
     {
-        let table = Table::new(heap)?;
-        let mut numbers = Vec::new(heap);
-        numbers.resize(16384, Numbers::none())?;
         Ok(Lender {
-            numbers,
-            table,
+            numbers: Vec::from_elem(heap, Numbers::none(), 16384)?,
+            table: Table::new(heap)?,
             quiet: 0,
             long,
         })
     }
 
-    /// Comes up: no leases, and a grace period; false, and nothing changes, where that would pass 64 bits.
-    pub fn come_up(&mut self, clock: u64) -> bool
-        ensures answer { result ≡ nat_lt (clock + self.old.long) (2 ^ 64) }
-        ensures after { book self.new ≡ (if result then risen clock (book self.old) else book self.old) }
+    /// Comes up: no leases, and a grace period; refused, and nothing changes, where that would pass 64 bits.
+    pub fn come_up(&mut self, clock: u64) -> Result<(), Refusal>
+        ensures answer { is_ok result ≡ nat_lt (clock + self.old.long) (2 ^ 64) }
+        ensures why { IfErr result (λ e. e ≡ Refusal.Exhausted) }
+        ensures after { book self.new ≡ (if is_ok result then risen clock (book self.old) else book self.old) }
     {
-        if u64::MAX - self.long < clock {
-            return false;
-        }
+        let quiet = clock.checked_add(self.long).ok_or(Refusal::Exhausted)?;
         self.table.clear();
-        self.quiet = clock + self.long;
-        true
+        self.quiet = quiet;
+        Ok(())
     }
 }

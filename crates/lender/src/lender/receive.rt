@@ -1,5 +1,5 @@
 ghost use Rattle.std.specs.Prelude.{◌≡◌, ℕ, List, Some};
-ghost use Rattle.message.specs.Format.{Ask, Write, Back};
+ghost use Rattle.message.specs.Format.{Ask as AskMsg, Write, Back};
 ghost use Rattle.message.specs.Reading.{read};
 ghost use Rattle.part.specs.Parts.{parts};
 ghost use Rattle.lender.specs.Book.{book};
@@ -9,8 +9,7 @@ use crate::answer::{AskAnswer, Reply, Sends, WriteAnswer};
 use crate::lender::Lender;
 use journal::record::Record;
 use message::decode::{carried_part, decode};
-use message::form::Message;
-use message::kind::Kind;
+use message::form::{Ask, Message};
 use message::refusal::Refusal;
 use part::files::Files;
 use part::head::Head;
@@ -19,51 +18,36 @@ use part::head::Head;
 fn turned_away() -> Reply
     ensures { (f : ℕ → List ℕ) → effect f result ≡ turned_away }
 {
-    Reply {
-        record: None,
-        sends: Sends::Nothing,
-        answer: Err(Refusal::Malformed),
-    }
+    Reply::only(Err(Refusal::Malformed))
 }
 
 // The reply to an ask.
-fn ask_reply(head: Head, kind: Kind, written: u32, answer: AskAnswer) -> Reply
-    ensures { (f : ℕ → List ℕ) → effect f result ≡ ask_effect head.who.id head.place.at head.number kind written (f head.place.at) answer }
+fn ask_reply(ask: &Ask, answer: AskAnswer) -> Reply
+    ensures { (f : ℕ → List ℕ) → effect f result ≡ ask_effect ask.now.head.who.id ask.now.head.place.at ask.now.head.number ask.now.kind ask.now.written (f ask.now.head.place.at) answer }
 {
-    let place = head.place;
+    let Ask {
+        head,
+        kind,
+        written,
+    } = *ask;
+    let result = answer.result();
     match answer {
-        AskAnswer::Granted { voids: true } => {
-            let until = Head {
-                who: head.who,
-                place,
+        AskAnswer::Granted { voids: true } => Reply {
+            record: Some(Record::VoidUpTo(Head {
                 number: written,
-            };
-            Reply {
-                record: Some(Record::VoidUpTo(until)),
-                sends: Sends::One(Message::Loan { head, kind }),
-                answer: Ok(()),
-            }
-        }
-        AskAnswer::Granted { voids: false } => Reply {
-            record: None,
-            sends: Sends::One(Message::Loan { head, kind }),
-            answer: Ok(()),
+                ..head
+            })),
+            ..Reply::sending(Message::Loan { head, kind }, result)
         },
-        AskAnswer::Quiet => Reply {
-            record: None,
-            sends: Sends::Nothing,
-            answer: Err(Refusal::Quiet),
-        },
+        AskAnswer::Granted { voids: false } => Reply::sending(Message::Loan { head, kind }, result),
         AskAnswer::Barred { by } => Reply {
-            record: None,
-            sends: Sends::Recalls { place, by },
-            answer: Err(Refusal::Barred),
+            sends: Sends::Recalls {
+                place: head.place,
+                by,
+            },
+            ..Reply::only(result)
         },
-        AskAnswer::Exhausted => Reply {
-            record: None,
-            sends: Sends::Nothing,
-            answer: Err(Refusal::Exhausted),
-        },
+        AskAnswer::Quiet | AskAnswer::Exhausted => Reply::only(result),
     }
 }
 
@@ -75,40 +59,22 @@ fn write_reply(head: Head, answer: WriteAnswer) -> Reply
     match answer {
         WriteAnswer::Applied => Reply {
             record: Some(Record::Applied(head)),
-            sends: Sends::One(Message::In(head)),
-            answer: result,
+            ..Reply::sending(Message::In(head), result)
         },
-        WriteAnswer::Again => Reply {
-            record: None,
-            sends: Sends::One(Message::In(head)),
-            answer: result,
-        },
-        WriteAnswer::Void => Reply {
-            record: None,
-            sends: Sends::One(Message::Void(head)),
-            answer: result,
-        },
-        WriteAnswer::Passed => Reply {
-            record: None,
-            sends: Sends::Nothing,
-            answer: result,
-        },
-        WriteAnswer::Quiet => Reply {
-            record: None,
-            sends: Sends::Nothing,
-            answer: result,
-        },
+        WriteAnswer::Again => Reply::sending(Message::In(head), result),
+        WriteAnswer::Void => Reply::sending(Message::Void(head), result),
+        WriteAnswer::Passed | WriteAnswer::Quiet => Reply::only(result),
     }
 }
 
 impl Lender {
     // An ask comes.
-    fn on_ask(&mut self, clock: u64, head: Head, kind: Kind, written: u32) -> Reply
-        ensures effect { (f : ℕ → List ℕ) → effect f result ≡ heard_effect clock (Some (Ask head.who.id head.place.at head.number kind written)) (book self.old) f }
-        ensures book { book self.new ≡ heard_book clock (Some (Ask head.who.id head.place.at head.number kind written)) (book self.old) }
+    fn on_ask(&mut self, clock: u64, ask: &Ask) -> Reply
+        ensures effect { (f : ℕ → List ℕ) → effect f result ≡ heard_effect clock (Some (AskMsg ask.now.head.who.id ask.now.head.place.at ask.now.head.number ask.now.kind ask.now.written)) (book self.old) f }
+        ensures book { book self.new ≡ heard_book clock (Some (AskMsg ask.now.head.who.id ask.now.head.place.at ask.now.head.number ask.now.kind ask.now.written)) (book self.old) }
     {
-        let answer = self.ask(clock, head, kind, written);
-        ask_reply(head, kind, written, answer)
+        let answer = self.ask(clock, ask);
+        ask_reply(ask, answer)
     }
 
     // A write comes.
@@ -131,11 +97,7 @@ impl Lender {
             return turned_away();
         };
         match message {
-            Message::Ask {
-                head,
-                kind,
-                written,
-            } => self.on_ask(clock, head, kind, written),
+            Message::Ask(ask) => self.on_ask(clock, &ask),
             Message::Write(head) => {
                 let Some(part) = carried_part(bytes) else {
                     return turned_away();
@@ -144,16 +106,11 @@ impl Lender {
             }
             Message::Back(head) => {
                 self.back(head);
-                Reply {
-                    record: None,
-                    sends: Sends::Nothing,
-                    answer: Ok(()),
-                }
+                Reply::only(Ok(()))
             }
-            Message::Loan { .. } => turned_away(),
-            Message::In(_) => turned_away(),
-            Message::Void(_) => turned_away(),
-            Message::Recall { .. } => turned_away(),
+            Message::Loan { .. } | Message::In(_) | Message::Void(_) | Message::Recall { .. } => {
+                turned_away()
+            }
         }
     }
 }

@@ -6,65 +6,82 @@ ghost use Rattle.lender.specs.Rules.{ask_answer, after_ask, write_answer, after_
 
 use crate::answer::{AskAnswer, WriteAnswer};
 use crate::lender::Lender;
+use crate::numbers::Counts;
 use lease::lease::Lease;
-use message::kind::Kind;
+use message::form::Ask;
 use part::files::Files;
 use part::head::Head;
-use part::place::Place;
-use part::who::Who;
 
 impl Lender {
     // The write of this number is applied.
     pub(crate) fn set_done(&mut self, head: Head)
         ensures { book self.new ≡ applied head.who.id head.place.at head.number (book self.old) }
     {
-        self.numbers[head.place.at as usize].apply(head.who, head.number);
+        let numbers = &mut self.numbers[head.place.at as usize];
+        let counts = numbers.of(head.who);
+        numbers.set(
+            head.who,
+            Counts {
+                done: head.number,
+                ..counts
+            },
+        );
     }
 
     // The writes up to this number are void.
-    pub(crate) fn set_void(&mut self, who: Who, place: Place, number: u32)
-        ensures { book self.new ≡ with_void_at who.id place.at number (book self.old) }
+    pub(crate) fn set_void(&mut self, head: Head)
+        ensures { book self.new ≡ with_void_at head.who.id head.place.at head.number (book self.old) }
     {
-        self.numbers[place.at as usize].void(who, number);
+        let numbers = &mut self.numbers[head.place.at as usize];
+        let counts = numbers.of(head.who);
+        numbers.set(
+            head.who,
+            Counts {
+                voided: head.number,
+                ..counts
+            },
+        );
     }
 
     // Adds a lease, where there is room in the table and in the clock.
-    fn add_lease(&mut self, clock: u64, head: Head, kind: Kind)
+    fn add_lease(&mut self, clock: u64, ask: &Ask)
         requires clock { clock + self.old.long < 2 ^ 64 }
         requires table { count_by (running clock) (book self.old).leases < 4096 }
-        ensures { book self.new ≡ with_lease clock head.who.id head.place.at head.number kind (book self.old) }
+        ensures { book self.new ≡ with_lease clock ask.now.head.who.id ask.now.head.place.at ask.now.head.number ask.now.kind (book self.old) }
     {
-        let until = clock + self.long;
         let lease = Lease {
-            who: head.who.id,
-            place: head.place.at,
-            kind,
-            number: head.number,
-            until,
+            who: ask.head.who.id,
+            place: ask.head.place.at,
+            kind: ask.kind,
+            number: ask.head.number,
+            until: clock + self.long,
         };
         let _ = self.table.grant(clock, lease);
     }
 
     // Lends, where there is room in the table and in the clock.
-    fn grant(&mut self, clock: u64, head: Head, kind: Kind, written: u32, voids: bool)
+    fn grant(&mut self, clock: u64, ask: &Ask, voids: bool)
         requires clock { clock + self.old.long < 2 ^ 64 }
         requires table { count_by (running clock) (book self.old).leases < 4096 }
-        ensures { book self.new ≡ granted clock head.who.id head.place.at head.number kind written voids (book self.old) }
+        ensures { book self.new ≡ granted clock ask.now.head.who.id ask.now.head.place.at ask.now.head.number ask.now.kind ask.now.written voids (book self.old) }
     {
-        self.add_lease(clock, head, kind);
+        self.add_lease(clock, ask);
         if voids {
-            self.set_void(head.who, head.place, written);
+            self.set_void(Head {
+                number: ask.written,
+                ..ask.head
+            });
         }
     }
 
     /// An ask: judged, and the part lent where nothing stands in the way.
-    pub fn ask(&mut self, clock: u64, head: Head, kind: Kind, written: u32) -> AskAnswer
-        ensures answer { result ≡ ask_answer clock head.who.id head.place.at kind written (book self.old) }
-        ensures after { book self.new ≡ after_ask clock head.who.id head.place.at head.number kind written result (book self.old) }
+    pub fn ask(&mut self, clock: u64, ask: &Ask) -> AskAnswer
+        ensures answer { result ≡ ask_answer clock ask.now.head.who.id ask.now.head.place.at ask.now.kind ask.now.written (book self.old) }
+        ensures after { book self.new ≡ after_ask clock ask.now.head.who.id ask.now.head.place.at ask.now.head.number ask.now.kind ask.now.written result (book self.old) }
     {
-        let answer = self.judge_ask(clock, head, kind, written);
+        let answer = self.judge_ask(clock, ask);
         if let AskAnswer::Granted { voids } = answer {
-            self.grant(clock, head, kind, written, voids);
+            self.grant(clock, ask, voids);
         }
         answer
     }
@@ -93,6 +110,6 @@ impl Lender {
     pub fn back(&mut self, head: Head)
         ensures { book self.new ≡ given_back head.who.id head.place.at head.number (book self.old) }
     {
-        self.table.end(head.who, head.place, head.number);
+        self.table.end(&head);
     }
 }

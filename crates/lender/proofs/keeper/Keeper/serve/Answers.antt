@@ -15,9 +15,9 @@ returns g c =
     let b = keeper_book c.args.self.now in
     let f = keeper_parts c.args.self.now in
     let r = c.receive-reply.ensures in
-    let was = g.S.Store.appended c.args.store.now in
-    let is = g.S.Store.appended c.log.new.store in
-    let L : List Rec → Type 0 = λ rs. Logged rs was (g.S.Store.synced c.args.store.now) is (g.S.Store.synced c.log.new.store) in
+    let was = g.S.Store.disk c.args.store.now in
+    let is = g.S.Store.disk c.log.new.store in
+    let L : List Rec → Type 0 = λ rs. Logged rs was is in
     let done : L (heard_effect c.args.clock o b f).records = subst L (ap (λ (e : Effect). e.records) r.effect) c.in_ok-log.ensures in
     let same : memory (keeper_book c.receive-reply.new.self) (keeper_parts c.receive-reply.new.self) ≡ memory (heard_book c.args.clock o b) (heard_parts c.args.clock o b f) =
     λ i. memory (r.book i) (r.parts i) in
@@ -26,5 +26,5 @@ returns g c =
       book = r.book;
       parts = r.parts;
       logged = done;
-      disk = λ held. holds_more (memory b f) _ was is _ held (all_sound c.args.clock c.args.bytes.now b f) done.grown (same ∙ kept c.args.clock o b f);
+      disk = λ held. holds_more (memory b f) _ was.appended is.appended _ held (all_sound c.args.clock c.args.bytes.now b f) done.grown (same ∙ kept c.args.clock o b f);
     }
