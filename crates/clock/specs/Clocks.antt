@@ -1,11 +1,14 @@
 -- The moments that five clocks stand for, and what letting time pass does to them.
-use Rattle.std.specs.Prelude.{◌≡◌, ℕ, ◌^◌, ◌<◌, ◌≤◌, Bool, true, false, List, ◌∷◌, map, slice_index, slice_index_or}
+use Rattle.std.specs.Prelude.{◌≡◌, ℕ, ◌+◌, ◌^◌, ◌<◌, ◌≤◌, List, ◌∷◌, Ok, Err, Result, map, slice_index, slice_index_or}
 use mathlib.Core.List.{Memᴰ}
 use Rattle.clock.specs.Envelopes.{Encloses}
-use Rattle.clock.specs.Loops.{none}
+use Rattle.clock.specs.Hands.{none}
 use Rattle.clock.specs.Moments.{Moment, Passing, after, Later, Pairs, Within}
 use Rattle.clock.specs.declared.clocks.Clocks.{Clocks}
+use Rattle.clock.specs.declared.clocks.NoPass.{NoPass}
+use Rattle.clock.specs.declared.clocks.NoPass.TheVariants.{TimeTooHigh, ReadingTooHigh, OffError}
 use Rattle.clock.specs.declared.envelope.Point.{Point}
+use Rattle.clock.specs.declared.hand.Hand.{Hand}
 
 -- What the clocks of a table show, the keeper's first. A clock past the end of the table shows what the keeper's does,
 -- so that a statement about every clock says no more than it says of those in the table.
@@ -19,8 +22,11 @@ abbrev pub passing : (time : ℕ) (by : List ℕ) → Passing
 passing time by = record { true = time; hand = shows by }
 
 -- the moment that the clocks show now
+abbrev pub shown_by : List Hand → List ℕ
+shown_by hands = map (λ (h : Hand). h.shown) hands
+
 abbrev pub present : Clocks → Moment
-present s = moment s.time s.hands
+present s = moment s.time (shown_by s.hands)
 
 -- the readings of clock j at some moments
 abbrev pub reading_at : ℕ → Moment → Point
@@ -36,7 +42,7 @@ Five m = (j : ℕ) → 5 ≤ j → m.hand j ≡ m.hand 0
 -- the clocks stand for the moments so far, the present first: they have kept within the error between any two of these,
 -- and their envelopes can judge the next
 pub record Stands (s : Clocks) (past : List Moment) : Type 0 where
-  pub encloses : (j : ℕ) → j < 5 → Encloses s.terms.rate 1 (readings j (present s ∷ past)) (slice_index_or s.envelopes j none)
+  pub encloses : (j : ℕ) → j < 5 → Encloses s.terms.rate 1 (readings j (present s ∷ past)) (slice_index_or s.hands j none).envelope
   pub five : (m : Moment) → Memᴰ m (present s ∷ past) → Five m
   pub later : Pairs Later (present s ∷ past)
   pub within : Within s.terms.rate 1 (present s ∷ past)
@@ -59,7 +65,14 @@ pub record Refused (time : ℕ) (by : List ℕ) (s s' : Clocks) : Type 0 where
       Room (after (present s) (passing time by)) → (past : List Moment) → Stands s past →
       Within s.terms.rate 1 (after (present s) (passing time by) ∷ present s ∷ past) → ⊥
 
--- what is promised of letting time pass, where the answer is true and where it is false
-abbrev pub Outcome : (time : ℕ) (by : List ℕ) (s s' : Clocks) → Bool → Type 0
-Outcome time by s s' true = Passed time by s s'
-Outcome time by s s' false = Refused time by s s'
+-- what stands against it, where time does not pass
+abbrev pub Reason : (time : ℕ) (by : List ℕ) → Clocks → NoPass → Type 0
+Reason time by s TimeTooHigh = 2 ^ 64 ≤ s.time + time
+Reason time by s ReadingTooHigh = (j : ℕ) × (2 ^ 64 ≤ (after (present s) (passing time by)).hand j)
+Reason time by s OffError =
+    (past : List Moment) → Stands s past → Within s.terms.rate 1 (after (present s) (passing time by) ∷ present s ∷ past) → ⊥
+
+-- what is promised of letting time pass
+abbrev pub Outcome : (time : ℕ) (by : List ℕ) (s s' : Clocks) → Result (Unit {0}) NoPass → Type 0
+Outcome time by s s' (Ok u) = Passed time by s s'
+Outcome time by s s' (Err why) = Refused time by s s' × Reason time by s why

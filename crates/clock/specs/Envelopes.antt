@@ -5,15 +5,18 @@ use Rattle.clock.specs.Moments.{million, Keeps}
 use Rattle.clock.specs.declared.envelope.Envelope.{Envelope}
 use Rattle.clock.specs.declared.envelope.Point.{Point}
 
+-- at p the clock is as far ahead as at q of one that runs at this speed, in parts of a million, or less so by at most the slack
+abbrev pub ahead_of : (speed grain slack : ℕ) (p q : Point) → Bool
+ahead_of speed grain slack p q =
+    nat_le (p.time * speed + q.shown * (million * grain)) (q.time * speed + p.shown * (million * grain) + slack)
+
 -- at p the clock is as far ahead of the slowest that it may run as at q, or less so by at most the slack
 abbrev pub ahead_by : (rate grain slack : ℕ) (p q : Point) → Bool
-ahead_by rate grain slack p q =
-    nat_le (p.time * (million - rate) + q.shown * (million * grain)) (q.time * (million - rate) + p.shown * (million * grain) + slack)
+ahead_by rate grain slack p q = ahead_of (million - rate) grain slack p q
 
 -- at p the clock is as far behind the fastest that it may run as at q, or less so by at most the slack
 abbrev pub behind_by : (rate grain slack : ℕ) (p q : Point) → Bool
-behind_by rate grain slack p q =
-    nat_le (p.shown * (million * grain) + q.time * (million + rate)) (q.shown * (million * grain) + p.time * (million + rate) + slack)
+behind_by rate grain slack p q = ahead_of (million + rate) grain slack q p
 
 -- the envelope of one reading, whether it admits a next one, and the envelope with that one too
 abbrev pub first_one : Point → Envelope

@@ -1,5 +1,5 @@
 pub mod Moments
 pub mod Terms
 pub mod Envelopes
-pub mod Loops
+pub mod Hands
 pub mod Clocks

@@ -1,20 +1,42 @@
 // The true time and five clocks, which go on only as far as they keep within their error.
 ghost use Rattle.std.specs.Prelude.{◌≡◌, suc, ◌<◌, ◌≤◌, [], MatchOption};
 ghost use Rattle.clock.specs.Clocks.{Outcome, Stands, moment, present};
-ghost use Rattle.clock.specs.Loops.{AllExtended, Judged, Overflows, Sums};
 
-use crate::envelope::{Envelope, Point};
+use crate::hand::Hand;
 use crate::terms::Terms;
+use std::error::Error;
+use std::fmt;
 
-/// The true time in milliseconds and what the clocks show, the keeper's first and then those of borrowers 0 to 3,
-/// with what is remembered of all earlier readings.
+/// The true time in milliseconds and the clocks, the keeper's first and then those of borrowers 0 to 3.
 #[derive(Drop)]
 pub struct Clocks {
     time: u64,
-    hands: [u64; 5],
-    envelopes: [Envelope; 5],
+    hands: [Hand; 5],
     terms: Terms,
 }
+
+/// Why time does not pass.
+#[derive(Clone, Copy, Debug, PartialEq, Eq)]
+pub enum NoPass {
+    /// the true time would pass 64 bits
+    TimeTooHigh,
+    /// a reading would pass 64 bits
+    ReadingTooHigh,
+    /// a clock would leave its error against an earlier moment
+    OffError,
+}
+
+impl fmt::Display for NoPass {
+    fn fmt<W: fmt::Write>(&self, f: &mut fmt::Formatter<W>) -> fmt::Result {
+        f.write_str(match self {
+            NoPass::TimeTooHigh => "the true time would pass 64 bits",
+            NoPass::ReadingTooHigh => "a reading would pass 64 bits",
+            NoPass::OffError => "a clock would leave its error",
+        })
+    }
+}
+
+impl Error for NoPass {}
 
 impl Clocks {
     /// The clocks at the true time 0.
@@ -23,59 +45,41 @@ impl Clocks {
         ensures terms { result.terms ≡ terms }
         ensures stands { Stands result [] }
     {
-        let mut envelopes = [Envelope::first(Point { time: 0, shown: 0 }); 5];
-        for i in 0..5 {
-            envelopes[i] = Envelope::first(Point {
-                time: 0,
-                shown: hands[i],
-            });
-        }
         Clocks {
             time: 0,
-            hands: *hands,
-            envelopes,
+            hands: hands.map(Hand::first),
             terms,
         }
     }
 
     /// Lets so much true time pass while the clocks go on by so much, the keeper's first.
-    /// False, with nothing changed, where a clock would leave its error against any earlier moment,
-    /// or where the true time or a reading would pass 64 bits.
-    pub fn pass(&mut self, time: u64, by: &[u64; 5]) -> bool
+    /// An error changes nothing.
+    pub fn pass(&mut self, time: u64, by: &[u64; 5]) -> Result<(), NoPass>
         ensures { Outcome time by.now self.old self.new result }
     {
-        if self.time > u64::MAX - time {
-            return false;
+        let time = self.time.checked_add(time).ok_or(NoPass::TimeTooHigh)?;
+        let mut hands = self.hands;
+        // The index stays: of what is written through `iter_mut().zip(by)` a proof knows nothing afterwards.
+        for (i, by) in by.iter().enumerate() {
+            hands[i] = hands[i].pass(&self.terms, time, *by)?;
         }
-        let time = self.time + time;
-        let Some(hands) = sums(&self.hands, by) else {
-            return false;
-        };
-        if !all_admit(&self.envelopes, &self.terms, time, &hands) {
-            return false;
-        }
-        extend_all(&mut self.envelopes, &self.terms, time, &hands);
         self.time = time;
         self.hands = hands;
-        true
+        Ok(())
     }
 
     /// What the keeper's clock shows.
     pub fn keeper(&self) -> u64
         ensures { result ≡ (present self.now).hand 0 }
     {
-        self.hands[0]
+        self.hands[0].shown
     }
 
     /// What a borrower's clock shows; there are four.
     pub fn borrower(&self, i: u8) -> Option<u64>
         ensures { MatchOption result (4 ≤ i) (λ x. (i < 4) × (x ≡ (present self.now).hand (suc i))) }
     {
-        if i < 4 {
-            Some(self.hands[i as usize + 1])
-        } else {
-            None
-        }
+        self.hands.get(usize::from(i) + 1).map(|hand| hand.shown)
     }
 
     /// The terms that the clocks are judged by.
@@ -83,53 +87,6 @@ impl Clocks {
         ensures { result ≡ self.now.terms }
     {
         self.terms
-    }
-}
-
-/// The readings after they have gone on, or none where one passes 64 bits.
-fn sums(hands: &[u64; 5], by: &[u64; 5]) -> Option<[u64; 5]>
-    ensures { MatchOption result (Overflows hands.now by.now) (Sums hands.now by.now) }
-{
-    let mut next = *hands;
-    for i in 0..5 {
-        if next[i] > u64::MAX - by[i] {
-            return None;
-        }
-        next[i] += by[i];
-    }
-    Some(next)
-}
-
-/// Whether every clock keeps within its error if it shows this next.
-fn all_admit(envelopes: &[Envelope; 5], terms: &Terms, time: u64, hands: &[u64; 5]) -> bool
-    ensures { Judged terms.now.rate envelopes.now time hands.now result }
-{
-    for i in 0..5 {
-        if !envelopes[i].admits(
-            terms,
-            Point {
-                time,
-                shown: hands[i],
-            },
-        ) {
-            return false;
-        }
-    }
-    true
-}
-
-/// Remembers what every clock shows.
-fn extend_all(envelopes: &mut [Envelope; 5], terms: &Terms, time: u64, hands: &[u64; 5])
-    ensures { AllExtended terms.now.rate envelopes.old time hands.now envelopes.new }
-{
-    for i in 0..5 {
-        envelopes[i] = envelopes[i].extend(
-            terms,
-            Point {
-                time,
-                shown: hands[i],
-            },
-        );
     }
 }
 
@@ -145,7 +102,7 @@ mod tests {
     fn play(rt: &impl Abort, shown: u64, steps: &[(u64, u64, bool)]) -> Result<(), Fail> {
         let mut clocks = at(shown)?;
         for (time, by, passes) in steps {
-            assert_eq!(rt; clocks.pass(*time, &[*by; 5]), *passes);
+            assert_eq!(rt; clocks.pass(*time, &[*by; 5]).is_ok(), *passes);
         }
         Ok(())
     }
@@ -191,9 +148,15 @@ mod tests {
     #[test]
     fn readings(rt: HostRuntime) -> Result<(), Fail> {
         let mut clocks = at(7)?;
-        assert!(rt; !clocks.pass(10_000, &[10_000, 10_000, 10_003, 10_000, 10_000]));
+        assert_eq!(rt;
+            clocks.pass(10_000, &[10_000, 10_000, 10_003, 10_000, 10_000]),
+            Err(NoPass::OffError)
+        );
         assert_eq!(rt; clocks.borrower(1), Some(7));
-        assert!(rt; clocks.pass(10_000, &[10_000, 10_001, 10_002, 9_999, 9_998]));
+        assert_eq!(rt;
+            clocks.pass(10_000, &[10_000, 10_001, 10_002, 9_999, 9_998]),
+            Ok(())
+        );
         assert_eq!(rt; clocks.keeper(), 10_007);
         assert_eq!(rt; clocks.borrower(0), Some(10_008));
         assert_eq!(rt; clocks.borrower(3), Some(10_005));

@@ -1,18 +1,18 @@
 // Whether a clock keeps within its error against all its earlier readings, by two of them.
 ghost use Rattle.std.specs.Prelude.{◌≡◌, ℕ, ◌*◌, ◌^◌, ◌<◌, [], ◌∷◌};
-ghost use Rattle.clock.specs.Envelopes.{Encloses, Exact, Extends, admits_one, ahead_by, behind_by, extend_one, first_one};
+ghost use Rattle.clock.specs.Envelopes.{Encloses, Exact, Extends, admits_one, ahead_by, ahead_of, behind_by, extend_one, first_one};
 
 use crate::terms::Terms;
 
 /// A true time in milliseconds, and what a clock showed then.
-#[derive(Clone, Copy)]
+#[derive(Clone, Copy, Debug, PartialEq, Eq)]
 pub struct Point {
     pub time: u64,
     pub shown: u64,
 }
 
 /// The reading at which a clock was furthest ahead, and the one at which it was furthest behind.
-#[derive(Clone, Copy)]
+#[derive(Clone, Copy, Debug, PartialEq, Eq)]
 pub struct Envelope {
     ahead: Point,
     behind: Point,
@@ -58,23 +58,29 @@ impl Envelope {
     }
 }
 
-/// Whether the clock is as far ahead at `p` as at `q`, or less so by at most the slack, in millionths of a millisecond.
-/// Both sides are sums, so that nothing goes below zero.
+/// Whether the clock is as far ahead of the slowest at `p` as at `q`, or less so by at most the slack,
+/// in millionths of a millisecond.
 fn ahead_by(terms: &Terms, slack: u64, p: Point, q: Point) -> bool
     ensures { result ≡ ahead_by terms.now.rate 1 slack p q }
 {
-    let slowest = 1_000_000 - terms.rate;
-    times(p.time, slowest) + times(q.shown, 1_000_000)
-        <= times(q.time, slowest) + times(p.shown, 1_000_000) + slack as u128
+    ahead_of(1_000_000 - terms.rate, slack, p, q)
 }
 
-/// The same of how far it is behind.
+/// The same of how far it is behind the fastest: at `q`, then, it is ahead of that.
 fn behind_by(terms: &Terms, slack: u64, p: Point, q: Point) -> bool
     ensures { result ≡ behind_by terms.now.rate 1 slack p q }
 {
-    let fastest = 1_000_000 + terms.rate;
-    times(p.shown, 1_000_000) + times(q.time, fastest)
-        <= times(q.shown, 1_000_000) + times(p.time, fastest) + slack as u128
+    ahead_of(1_000_000 + terms.rate, slack, q, p)
+}
+
+/// The same of a clock of this speed, in millionths of the true time's.
+/// Both sides are sums, so that nothing goes below zero.
+fn ahead_of(speed: u64, slack: u64, p: Point, q: Point) -> bool
+    requires { speed < 2 ^ 32 }
+    ensures { result ≡ ahead_of speed 1 slack p q }
+{
+    times(p.time, speed) + times(q.shown, 1_000_000)
+        <= times(q.time, speed) + times(p.shown, 1_000_000) + u128::from(slack)
 }
 
 /// A reading times a small number, with room left for sums.
@@ -83,5 +89,5 @@ fn times(reading: u64, by: u64) -> u128
     ensures is { result ≡ reading * by }
     ensures small { result < 2 ^ 96 }
 {
-    reading as u128 * by as u128
+    u128::from(reading) * u128::from(by)
 }

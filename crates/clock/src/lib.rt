@@ -3,4 +3,5 @@
 
 pub mod clocks;
 pub mod envelope;
+pub mod hand;
 pub mod terms;

@@ -2,6 +2,9 @@
 ghost use Rattle.std.specs.Prelude.{◌≡◌, ◌≤◌, true, is_ok, IfOk, Some, None, MatchResult, nat_le};
 ghost use Rattle.clock.specs.Terms.{Fits, TermsSafe, long_reach, short_reach, verdict};
 
+use std::error::Error;
+use std::fmt;
+
 /// How far off clocks may run, in parts of a million, and how many milliseconds a lease runs for the borrower and for the keeper.
 #[derive(Clone, Copy)]
 pub struct Terms {
@@ -12,13 +15,27 @@ pub struct Terms {
 }
 
 /// Why terms don't fit together: the first condition that fails, in this order.
-#[derive(Clone, Copy)]
+#[derive(Clone, Copy, Debug, PartialEq, Eq)]
 pub enum Unfit {
     RateTooHigh,
     ShortTooShort,
     LongTooLong,
     TooClose,
 }
+
+impl fmt::Display for Unfit {
+    fn fmt<W: fmt::Write>(&self, f: &mut fmt::Formatter<W>) -> fmt::Result {
+        f.write_str(match self {
+            Unfit::RateTooHigh => "RATE is above 10000",
+            Unfit::ShortTooShort => "SHORT is below 1",
+            Unfit::LongTooLong => "LONG is above 3600000",
+            Unfit::TooClose =>
+                "LONG is too close to SHORT: (SHORT + 1)(1000000 + RATE) + 2000000 is above (LONG - 1)(1000000 - RATE)",
+        })
+    }
+}
+
+impl Error for Unfit {}
 
 impl Terms {
     /// The terms, or the first condition that they fail.
@@ -48,63 +65,51 @@ fn apart(rate: u64, short: u64, long: u64) -> bool
     requires { rate ≤ 10000 }
     ensures { result ≡ nat_le (short_reach rate short) (long_reach rate long) }
 {
-    let rate = rate as u128;
-    let short_reach = (short as u128 + 1) * (1_000_000 + rate) + 2_000_000;
-    let long_reach = long.saturating_sub(1) as u128 * (1_000_000 - rate);
+    let rate = u128::from(rate);
+    let short_reach = (u128::from(short) + 1) * (1_000_000 + rate) + 2_000_000;
+    let long_reach = u128::from(long.saturating_sub(1)) * (1_000_000 - rate);
     short_reach <= long_reach
 }
 
 /// Names the theorem that terms that fit are safe: while a lease runs for a borrower it runs for the keeper.
-pub fn terms_are_safe() -> u8
+pub fn terms_are_safe()
     ensures { TermsSafe }
-{
-    0
-}
+{}
 
 #[cfg(test)]
 mod tests {
     use super::*;
-
-    fn judged(rate: u64, short: u64, long: u64) -> u8 {
-        match Terms::new(rate, short, long) {
-            Ok(_) => 0,
-            Err(Unfit::RateTooHigh) => 1,
-            Err(Unfit::ShortTooShort) => 2,
-            Err(Unfit::LongTooLong) => 3,
-            Err(Unfit::TooClose) => 4,
-        }
-    }
 
     #[test]
     fn edges(rt: HostRuntime) {
         const MAX: u64 = u64::MAX;
         let table = [
             // the bounds
-            (10_000, 100, 1_000, 0),
-            (10_001, 100, 1_000, 1),
-            (100, 1, 1_000, 0),
-            (100, 0, 1_000, 2),
-            (100, 100, 3_600_000, 0),
-            (100, 100, 3_600_001, 3),
+            (10_000, 100, 1_000, None),
+            (10_001, 100, 1_000, Some(Unfit::RateTooHigh)),
+            (100, 1, 1_000, None),
+            (100, 0, 1_000, Some(Unfit::ShortTooShort)),
+            (100, 100, 3_600_000, None),
+            (100, 100, 3_600_001, Some(Unfit::LongTooLong)),
             // the inequality met exactly, and missed
-            (0, 100, 104, 0),
-            (0, 100, 103, 4),
-            (0, 101, 104, 4),
-            (10_000, 97, 103, 0),
-            (10_000, 97, 102, 4),
-            (10_000, 98, 103, 4),
-            (0, 1, 0, 4),
+            (0, 100, 104, None),
+            (0, 100, 103, Some(Unfit::TooClose)),
+            (0, 101, 104, Some(Unfit::TooClose)),
+            (10_000, 97, 103, None),
+            (10_000, 97, 102, Some(Unfit::TooClose)),
+            (10_000, 98, 103, Some(Unfit::TooClose)),
+            (0, 1, 0, Some(Unfit::TooClose)),
             // the first that fails is named
-            (10_001, 0, 3_600_001, 1),
-            (10_000, 0, 3_600_001, 2),
-            (10_000, MAX, 3_600_001, 3),
-            (10_000, MAX, 3_600_000, 4),
-            (MAX, MAX, MAX, 1),
-            (0, MAX, MAX, 3),
-            (0, MAX, 0, 4),
+            (10_001, 0, 3_600_001, Some(Unfit::RateTooHigh)),
+            (10_000, 0, 3_600_001, Some(Unfit::ShortTooShort)),
+            (10_000, MAX, 3_600_001, Some(Unfit::LongTooLong)),
+            (10_000, MAX, 3_600_000, Some(Unfit::TooClose)),
+            (MAX, MAX, MAX, Some(Unfit::RateTooHigh)),
+            (0, MAX, MAX, Some(Unfit::LongTooLong)),
+            (0, MAX, 0, Some(Unfit::TooClose)),
         ];
         for (rate, short, long, verdict) in &table {
-            assert_eq!(rt; judged(*rate, *short, *long), *verdict);
+            assert_eq!(rt; Terms::new(*rate, *short, *long).err(), *verdict);
         }
     }
 }

@@ -72,10 +72,8 @@ fn run(rt: &HostRuntime) -> anyhow::Result<()> {
     ) else {
         return Err(anyhow!("four arguments are wanted: RATE SHORT LONG FILE"));
     };
-    match terms(rate.as_bytes(), short.as_bytes(), long.as_bytes()) {
-        Ok(terms) => start(rt, terms.long, path.as_str()),
-        Err(why) => Err(anyhow!(why.text())),
-    }
+    let terms = terms(rate.as_bytes(), short.as_bytes(), long.as_bytes())?;
+    start(rt, terms.long, path.as_str())
 }
 
 fn main(rt: HostRuntime) -> ExitCode {

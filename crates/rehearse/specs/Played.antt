@@ -1,6 +1,6 @@
 -- What a line of the script does to the clocks, and what is printed of it.
 -- Assumes nothing.
-use Rattle.std.specs.Prelude.{◌≡◌, ℕ, Bool, true, false, cond, List, [], ◌∷◌, replicate, Some, None, MatchBool, Option, slice_index}
+use Rattle.std.specs.Prelude.{◌≡◌, ℕ, true, false, cond, List, [], ◌∷◌, replicate, Some, None, MatchBool, Option, Result, is_ok, slice_index}
 use Rattle.part.specs.declared.place.Place.{Place}
 use Rattle.script.specs.declared.step.Step.{Step}
 use Rattle.script.specs.declared.step.Step.TheVariants.{Blank, Set, Tick, Up, Stop, Call, Deliver}
@@ -8,6 +8,7 @@ use Rattle.script.specs.declared.step.Step.TheVariants as step
 use Rattle.message.specs.declared.refusal.Refusal.TheVariants.{Malformed}
 use Rattle.clock.specs.declared.terms.Terms.{Terms}
 use Rattle.clock.specs.declared.clocks.Clocks.{Clocks}
+use Rattle.clock.specs.declared.clocks.NoPass.{NoPass}
 use Rattle.clock.specs.Clocks.{present, moment, Stands, Outcome}
 use Rattle.rehearse.specs.declared.rehearsal.Rehearsal.{Rehearsal}
 use Rattle.rehearse.specs.declared.rehearsal.Said.{Said}
@@ -36,7 +37,7 @@ SetTo was is k bs said =
 
 -- time goes on, exactly where every clock stays within its error
 abbrev pub Ticked : (was is : Rehearsal) (time : ℕ) (by : List ℕ) → Said → Type 0
-Ticked was is t by said = (is.begun ≡ true) × ((ok : Bool) × Outcome t by was.clocks is.clocks ok × (said ≡ cond ok Done no))
+Ticked was is t by said = (is.begun ≡ true) × ((r : Result (Unit {0}) NoPass) × Outcome t by was.clocks is.clocks r × (said ≡ cond (is_ok r) Done no))
 
 -- what is not played yet
 abbrev pub Later : (was is : Rehearsal) → Said → Type 0

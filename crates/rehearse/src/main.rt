@@ -47,10 +47,8 @@ fn run(rt: &HostRuntime) -> anyhow::Result<()> {
     ) else {
         return Err(anyhow!("three arguments are wanted: RATE SHORT LONG"));
     };
-    match terms(rate.as_bytes(), short.as_bytes(), long.as_bytes()) {
-        Ok(terms) => play(rt, Stage::new(rt.alloc(), terms)?),
-        Err(why) => Err(anyhow!(why.text())),
-    }
+    let terms = terms(rate.as_bytes(), short.as_bytes(), long.as_bytes())?;
+    play(rt, Stage::new(rt.alloc(), terms)?)
 }
 
 fn main(rt: HostRuntime) -> ExitCode {

@@ -60,10 +60,9 @@ impl Rehearsal {
         ensures { Ticked self.old self.new time by.now result }
     {
         self.begun = true;
-        if self.clocks.pass(time, by) {
-            Said::Done
-        } else {
-            Said::Refused(Refusal::Malformed)
+        match self.clocks.pass(time, by) {
+            Ok(()) => Said::Done,
+            Err(_) => Said::Refused(Refusal::Malformed),
         }
     }
 

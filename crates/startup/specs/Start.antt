@@ -6,9 +6,12 @@ use Rattle.clock.specs.Terms.{verdict}
 use Rattle.startup.specs.declared.NoStart.{NoStart}
 use Rattle.startup.specs.declared.NoStart.TheVariants.{NoNumber, Unfit}
 
+abbrev pub unfit_start : Reason → NoStart
+unfit_start u = Unfit u
+
 abbrev pub verdict_of : Option Reason → Option NoStart
 verdict_of None = None
-verdict_of (Some u) = Some (Unfit u)
+verdict_of (Some u) = Some (unfit_start u)
 
 -- nothing where all is well
 abbrev pub why : (rate short long : Option ℕ) → Option NoStart

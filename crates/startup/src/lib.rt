@@ -3,15 +3,17 @@
 
 ghost use Rattle.std.specs.Prelude.{◌≡◌, Some, MatchResult};
 ghost use Rattle.lines.specs.Decimals.{number_of};
-ghost use Rattle.startup.specs.Start.{why, verdict_of};
+ghost use Rattle.startup.specs.Start.{unfit_start, why};
 
 use clock::terms::{Terms, Unfit};
 use lines::decimal::number;
+use std::error::Error;
+use std::fmt;
 
 pub mod print;
 
 /// Why a program does not start.
-#[derive(Clone, Copy)]
+#[derive(Clone, Copy, Debug, PartialEq, Eq)]
 pub enum NoStart {
     /// an argument is no number
     NoNumber,
@@ -19,17 +21,25 @@ pub enum NoStart {
     Unfit(Unfit),
 }
 
-impl NoStart {
-    /// One line for whoever started the program.
-    pub fn text(self) -> &'static str {
+// One line for whoever started the program.
+impl fmt::Display for NoStart {
+    fn fmt<W: fmt::Write>(&self, f: &mut fmt::Formatter<W>) -> fmt::Result {
         match self {
-            NoStart::NoNumber => "RATE, SHORT and LONG are numbers, decimal digits only",
-            NoStart::Unfit(Unfit::RateTooHigh) => "RATE is above 10000",
-            NoStart::Unfit(Unfit::ShortTooShort) => "SHORT is below 1",
-            NoStart::Unfit(Unfit::LongTooLong) => "LONG is above 3600000",
-            NoStart::Unfit(Unfit::TooClose) =>
-                "LONG is too close to SHORT: (SHORT + 1)(1000000 + RATE) + 2000000 is above (LONG - 1)(1000000 - RATE)",
+            NoStart::NoNumber => f.write_str(
+                "RATE, SHORT and LONG are numbers, decimal digits only",
+            ),
+            NoStart::Unfit(unfit) => write!(f, "{unfit}"),
         }
+    }
+}
+
+impl Error for NoStart {}
+
+impl From<Unfit> for NoStart {
+    ghost from_gives = { λ unfit start. start ≡ unfit_start unfit };
+
+    fn from(unfit: Unfit) -> NoStart {
+        NoStart::Unfit(unfit)
     }
 }
 
@@ -37,17 +47,8 @@ impl NoStart {
 pub fn terms(rate: &[u8], short: &[u8], long: &[u8]) -> Result<Terms, NoStart>
     ensures { MatchResult result (λ t. (number_of rate.now ≡ Some t.rate) × (number_of short.now ≡ Some t.short) × (number_of long.now ≡ Some t.long)) (λ e. why (number_of rate.now) (number_of short.now) (number_of long.now) ≡ Some e) }
 {
-    let Some(rate) = number(rate) else {
-        return Err(NoStart::NoNumber);
-    };
-    let Some(short) = number(short) else {
-        return Err(NoStart::NoNumber);
-    };
-    let Some(long) = number(long) else {
-        return Err(NoStart::NoNumber);
-    };
-    match Terms::new(rate, short, long) {
-        Ok(terms) => Ok(terms),
-        Err(unfit) => Err(NoStart::Unfit(unfit)),
-    }
+    let rate = number(rate).ok_or(NoStart::NoNumber)?;
+    let short = number(short).ok_or(NoStart::NoNumber)?;
+    let long = number(long).ok_or(NoStart::NoNumber)?;
+    Ok(Terms::new(rate, short, long)?)
 }

@@ -85,10 +85,8 @@ fn run(rt: &HostRuntime) -> anyhow::Result<()> {
     let Some(who) = borrower(id.as_bytes()) else {
         return Err(anyhow!("BORROWER is a number from 0 to 31"));
     };
-    match terms(rate.as_bytes(), short.as_bytes(), long.as_bytes()) {
-        Ok(terms) => start(rt, terms.short, who, path.as_str()),
-        Err(why) => Err(anyhow!(why.text())),
-    }
+    let terms = terms(rate.as_bytes(), short.as_bytes(), long.as_bytes())?;
+    start(rt, terms.short, who, path.as_str())
 }
 
 fn main(rt: HostRuntime) -> ExitCode {
