@@ -6,7 +6,7 @@ use part::number::put_number;
 use part::place::Place;
 
 /// Whose journal it is: the two have records of different kinds.
-#[derive(Clone, Copy)]
+#[derive(Clone, Copy, Debug, PartialEq, Eq)]
 pub enum Owner {
     Keeper,
     Borrower,
@@ -14,7 +14,7 @@ pub enum Owner {
 
 /// A record. The 1,024 bytes of a part that is applied stand beside it:
 /// in the bytes that it was read from, or in the part that is lent where it is written.
-#[derive(Clone, Copy)]
+#[derive(Clone, Copy, Debug, PartialEq, Eq)]
 pub enum Record {
     /// the keeper applied this write of this borrower
     Applied(Head),

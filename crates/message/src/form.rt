@@ -8,7 +8,7 @@ use part::who::Who;
 
 /// A message. The 1,024 bytes of a part that a loan or a write carries stand beside it:
 /// in the bytes that it was read from, or in the part that is lent where it is written.
-#[derive(Clone, Copy)]
+#[derive(Clone, Copy, Debug, PartialEq, Eq)]
 pub enum Message {
     /// a borrower asks for a part; `written` is the number of its last write of the part
     Ask {
@@ -37,7 +37,7 @@ pub enum Message {
 }
 
 /// Bytes that are no message.
-#[derive(Clone, Copy)]
+#[derive(Clone, Copy, Debug, PartialEq, Eq)]
 pub struct Malformed;
 
 impl Message {

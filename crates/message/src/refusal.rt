@@ -2,7 +2,7 @@ ghost use Rattle.std.specs.Prelude.{◌≡◌};
 ghost use Rattle.message.specs.Refusals.{refusal_number};
 
 /// Why a message, a call or a line is refused. A refusal changes nothing.
-#[derive(Clone, Copy)]
+#[derive(Clone, Copy, Debug, PartialEq, Eq)]
 pub enum Refusal {
     /// no message or line of any form, or one that is not for this receiver
     Malformed,

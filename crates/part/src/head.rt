@@ -7,7 +7,7 @@ use crate::place::Place;
 use crate::who::Who;
 
 /// What most messages and records begin with, after their first byte: a borrower, a part and a number.
-#[derive(Clone, Copy)]
+#[derive(Clone, Copy, Debug, PartialEq, Eq)]
 pub struct Head {
     pub who: Who,
     pub place: Place,
