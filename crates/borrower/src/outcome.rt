@@ -28,11 +28,11 @@ pub struct Outcome {
 
 impl Outcome {
     // Nothing is sent or told: only an answer.
-    pub(crate) fn answering(record: Option<Record>, answer: Result<(), Refusal>) -> Outcome
-        ensures { (v : List ℕ) → effect v result ≡ record { records = recorded_by «record»; sends = []; tells = []; answer = answer } }
+    pub(crate) fn answering(due: Option<Record>, answer: Result<(), Refusal>) -> Outcome
+        ensures { (v : List ℕ) → effect v result ≡ record { records = recorded_by due; sends = []; tells = []; answer = answer } }
     {
         Outcome {
-            record,
+            record: due,
             send: None,
             told: None,
             answer,
@@ -40,12 +40,12 @@ impl Outcome {
     }
 
     // It is done, and this is sent.
-    pub(crate) fn sending(record: Option<Record>, message: Message) -> Outcome
-        ensures { (v : List ℕ) → effect v result ≡ record { records = recorded_by «record»; sends = said v message ∷ []; tells = []; answer = Ok tt } }
+    pub(crate) fn sending(due: Option<Record>, message: Message) -> Outcome
+        ensures { (v : List ℕ) → effect v result ≡ record { records = recorded_by due; sends = said v message ∷ []; tells = []; answer = Ok tt } }
     {
         Outcome {
             send: Some(message),
-            ..Outcome::answering(record, Ok(()))
+            ..Outcome::answering(due, Ok(()))
         }
     }
 
