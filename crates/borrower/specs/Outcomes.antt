@@ -9,7 +9,8 @@ use Rattle.message.specs.declared.refusal.Refusal.TheVariants.{Malformed}
 use Rattle.message.specs.declared.form.Message.{Message}
 use Rattle.message.specs.Format.{Msg, Ask, Loan, Write, In, Void, Recall, Back, said}
 use Rattle.journal.specs.declared.record.Record.{Record}
-use Rattle.journal.specs.Records.{Rec, Applied, VoidUpTo, Numbers, recorded}
+use Rattle.journal.specs.Records.{Rec, Applied, VoidUpTo, Numbers}
+use Rattle.journal.specs.Logs.{logged}
 use Rattle.borrower.specs.declared.hold.Part.{Part}
 use Rattle.borrower.specs.declared.hold.OnFile.{OnFile}
 use Rattle.borrower.specs.declared.hold.Asked.{Asked}
@@ -32,8 +33,7 @@ sent_by v None = []
 sent_by v (Some m) = said v m ∷ []
 
 abbrev pub recorded_by : Option Record → List Rec
-recorded_by None = []
-recorded_by (Some r) = recorded (replicate 1024 0) r ∷ []
+recorded_by r = logged (replicate 1024 0) r
 
 -- what an outcome of the code says, with the bytes v that stand beside a write
 abbrev pub effect : (v : List ℕ) → Outcome → Effect

@@ -1,12 +1,11 @@
 -- What each call and each message does to a borrower's part.
 -- Assumes nothing.
-use Rattle.std.specs.Prelude.{ℕ, ◌+◌, ◌*◌, ◌/◌, ◌^◌, min, Bool, true, false, cond, ◌&&◌, ◌||◌, Ok, Err, Result, ◌==◌, nat_le, nat_lt}
+use Rattle.std.specs.Prelude.{ℕ, ◌+◌, ◌*◌, ◌/◌, ◌^◌, min, Bool, true, false, cond, ◌&&◌, ◌||◌, Some, None, Ok, Err, Option, Result, ◌==◌, nat_le, nat_lt}
 use Rattle.message.specs.declared.kind.Kind.{Kind}
 use Rattle.message.specs.declared.kind.Kind.TheVariants.{Reading, Writing}
 use Rattle.message.specs.declared.refusal.Refusal.{Refusal}
 use Rattle.message.specs.declared.refusal.Refusal.TheVariants.{NoCopy, ReadOnly, HoldsCopy, OtherAsk, Exhausted}
-use Rattle.borrower.specs.declared.hold.Hold.{Hold}
-use Rattle.borrower.specs.declared.hold.Hold.TheVariants.{Nothing, Copy}
+use Rattle.borrower.specs.declared.hold.Held.{Held}
 use Rattle.borrower.specs.declared.hold.Part.{Part}
 use Rattle.borrower.specs.declared.hold.OnFile.{OnFile}
 use Rattle.borrower.specs.declared.hold.Asked.{Asked}
@@ -15,18 +14,22 @@ use Rattle.borrower.specs.declared.hold.Asked.{Asked}
 abbrev pub last_number : ℕ
 last_number = 4294967295
 
-abbrev pub holds : Hold → Bool
-holds Nothing = false
-holds (Copy k a) = true
+-- a copy of this kind, asked for at this reading of the clock
+abbrev pub copy : Kind → (asked : ℕ) → Option Held
+copy k a = Some (record { kind = k; asked = a })
+
+abbrev pub holds : Option Held → Bool
+holds None = false
+holds (Some h) = true
 
 -- a copy is valid until the clock is `short` beyond what it read at the ask; nothing is never stale
-abbrev pub stale : (clock short : ℕ) → Hold → Bool
-stale c s Nothing = false
-stale c s (Copy k a) = nat_le (a + s) c
+abbrev pub stale : (clock short : ℕ) → Option Held → Bool
+stale c s None = false
+stale c s (Some h) = nat_le (h.asked + s) c
 
 -- the copy is let go, and the ask number goes up, so that no loan for an earlier ask is taken
 abbrev pub released : Part → Part
-released p = record { ask = min last_number (p.ask + 1); write = p.write; asked = p.asked; hold = Nothing }
+released p = record { ask = min last_number (p.ask + 1); write = p.write; asked = p.asked; hold = None }
 
 -- before a call a copy that is no longer valid is released
 abbrev pub settled : (clock short : ℕ) → Part → Part
@@ -43,15 +46,18 @@ ask_of c s p =
     (asking c p, Ok (record { number = p.ask + 1; written = p.write })))
 
 -- SHOW, of a part that is settled
-abbrev pub showing : Hold → Result (Unit {0}) Refusal
-showing Nothing = Err NoCopy
-showing (Copy k a) = Ok tt
+abbrev pub showing : Option Held → Result (Unit {0}) Refusal
+showing None = Err NoCopy
+showing (Some h) = Ok tt
 
 -- WRITE, of a part that is settled: the copy lets it write, or why it may not
-abbrev pub writable : Hold → Result (Unit {0}) Refusal
-writable Nothing = Err NoCopy
-writable (Copy Reading a) = Err ReadOnly
-writable (Copy Writing a) = Ok tt
+abbrev pub lets_write : Kind → Result (Unit {0}) Refusal
+lets_write Reading = Err ReadOnly
+lets_write Writing = Ok tt
+
+abbrev pub writable : Option Held → Result (Unit {0}) Refusal
+writable None = Err NoCopy
+writable (Some h) = lets_write h.kind
 
 -- the write number goes up, and the copy is released
 abbrev pub wrote : Part → Part
@@ -66,7 +72,7 @@ write_of p = write_by p (writable p.hold)
 
 -- A LOAN comes: it is taken where it answers the last ask and no copy is held, and is valid from when that ask was made
 abbrev pub lent : Kind → Part → Part
-lent k p = record { ask = p.ask; write = p.write; asked = p.asked; hold = Copy k p.asked }
+lent k p = record { ask = p.ask; write = p.write; asked = p.asked; hold = copy k p.asked }
 
 abbrev pub loan_of : (number : ℕ) → Kind → Part → Part × Result (Unit {0}) Refusal
 loan_of n k p = cond (holds p.hold) (p, Err HoldsCopy) (cond (n == p.ask) (lent k p, Ok tt) (p, Err OtherAsk))
@@ -90,7 +96,7 @@ passes f p = nat_lt f.ask p.ask || nat_lt f.write p.write
 
 -- COMING UP: nothing is held, the write number is that on file, the ask number is above all that were used
 abbrev pub risen : OnFile → Part
-risen f = record { ask = cond (f.ask == 0) 0 (min last_number (f.ask + 1)); write = f.write; asked = 0; hold = Nothing }
+risen f = record { ask = cond (f.ask == 0) 0 (min last_number (f.ask + 1)); write = f.write; asked = 0; hold = None }
 
 abbrev pub same_kind : Kind → Kind → Bool
 same_kind Reading Reading = true
@@ -98,11 +104,11 @@ same_kind Reading Writing = false
 same_kind Writing Reading = false
 same_kind Writing Writing = true
 
-abbrev pub same_hold : Hold → Hold → Bool
-same_hold Nothing Nothing = true
-same_hold Nothing (Copy k a) = false
-same_hold (Copy k a) Nothing = false
-same_hold (Copy k a) (Copy l b) = same_kind k l && a == b
+abbrev pub same_hold : Option Held → Option Held → Bool
+same_hold None None = true
+same_hold None (Some h) = false
+same_hold (Some g) None = false
+same_hold (Some g) (Some h) = same_kind g.kind h.kind && g.asked == h.asked
 
 abbrev pub same_part : Part → Part → Bool
 same_part p q = p.ask == q.ask && (p.write == q.write && (p.asked == q.asked && same_hold p.hold q.hold))

@@ -1,193 +1,135 @@
-ghost use Rattle.std.specs.Prelude.{◌≡◌, ℕ};
-ghost use Rattle.borrower.specs.Steps.{holds, stale, released, settled, ask_of, showing, writable, write_of, loan_of, recall_of, rounded, kept_of, passes, risen, same_kind, same_hold, same_part};
+ghost use Rattle.std.specs.Prelude.{◌≡◌, ℕ, ◌+◌, ◌^◌, cond, Some, MatchResult, nat_le, nat_lt};
+ghost use Rattle.borrower.specs.Steps.{stale, released, settled, asking, ask_of, showing, wrote, write_of, loan_of, recall_of, rounded, kept_of, passes, risen};
 
-use crate::hold::{Asked, Hold, OnFile, Part};
+use crate::hold::{Asked, Held, OnFile, Part, Timing};
 use message::kind::Kind;
 use message::refusal::Refusal;
 
 /// The largest number of an ask or a write.
-const LAST: u32 = 4294967295;
+const LAST: u32 = u32::MAX;
 
-fn same_kind(a: Kind, b: Kind) -> bool
-    ensures { result ≡ same_kind a b }
-{
-    match (a, b) {
-        (Kind::Reading, Kind::Reading) => true,
-        (Kind::Reading, Kind::Writing) => false,
-        (Kind::Writing, Kind::Reading) => false,
-        (Kind::Writing, Kind::Writing) => true,
+impl Timing {
+    // Whether a copy asked for now is valid until a reading that the clock can show.
+    fn has_room(self) -> bool
+        ensures { result ≡ nat_lt (self.clock + self.short) (2 ^ 64) }
+    {
+        self.clock.checked_add(self.short).is_some()
     }
 }
 
-impl Hold {
-    fn is_copy(self) -> bool
-        ensures { result ≡ holds self }
-    {
-        match self {
-            Hold::Nothing => false,
-            Hold::Copy { kind: _, asked: _ } => true,
-        }
-    }
-
+impl Held {
     /// A copy that is no longer valid at this clock reading.
-    pub fn is_stale(self, clock: u64, short: u64) -> bool
-        ensures { result ≡ stale clock short self }
+    pub fn is_stale(self, time: Timing) -> bool
+        ensures { result ≡ stale time.clock time.short (Some self) }
     {
-        match self {
-            Hold::Nothing => false,
-            Hold::Copy { kind: _, asked } => clock >= asked && clock - asked >= short,
-        }
-    }
-
-    fn shows(self) -> Result<(), Refusal>
-        ensures { result ≡ showing self }
-    {
-        match self {
-            Hold::Nothing => Err(Refusal::NoCopy),
-            Hold::Copy { kind: _, asked: _ } => Ok(()),
-        }
-    }
-
-    fn lets_write(self) -> Result<(), Refusal>
-        ensures { result ≡ writable self }
-    {
-        match self {
-            Hold::Nothing => Err(Refusal::NoCopy),
-            Hold::Copy {
-                kind: Kind::Reading,
-                asked: _,
-            } => Err(Refusal::ReadOnly),
-            Hold::Copy {
-                kind: Kind::Writing,
-                asked: _,
-            } => Ok(()),
-        }
-    }
-
-    fn same(self, other: Hold) -> bool
-        ensures { result ≡ same_hold self other }
-    {
-        match (self, other) {
-            (Hold::Nothing, Hold::Nothing) => true,
-            (Hold::Nothing, Hold::Copy { kind: _, asked: _ }) => false,
-            (Hold::Copy { kind: _, asked: _ }, Hold::Nothing) => false,
-            (Hold::Copy { kind, asked }, Hold::Copy { kind: k, asked: a }) => same_kind(kind, k)
-                && asked == a,
-        }
+        time.clock >= self.asked && time.clock - self.asked >= time.short
     }
 }
 
 impl Part {
-    /// Lets the copy go; the ask number goes up, so that no loan for an earlier ask is taken.
+    /// Lets the copy go, if there is one; the ask number goes up, so that no loan for an earlier ask is taken.
     pub fn release(self) -> Part
         ensures { result ≡ released self }
     {
-        let ask = if self.ask < LAST { self.ask + 1 } else { LAST };
         Part {
-            ask,
-            write: self.write,
-            asked: self.asked,
-            hold: Hold::Nothing,
+            ask: self.ask.saturating_add(1),
+            hold: None,
+            ..self
         }
     }
 
     /// Releases a copy that is no longer valid.
-    pub fn settle(self, clock: u64, short: u64) -> Part
-        ensures { result ≡ settled clock short self }
+    pub fn settle(self, time: Timing) -> Part
+        ensures { result ≡ settled time.clock time.short self }
     {
-        if self.hold.is_stale(clock, short) {
+        if self.hold.is_some_and(|copy| copy.is_stale(time)) {
             self.release()
         } else {
             self
         }
     }
 
-    /// Asks for the part.
-    pub fn ask(self, clock: u64, short: u64) -> (Part, Result<Asked, Refusal>)
-        ensures { result ≡ ask_of clock short (settled clock short self) }
+    // The number of an ask of the part, which is settled, or why it may not ask.
+    fn next_ask(self, time: Timing) -> Result<u32, Refusal>
+        ensures { MatchResult result (λ n. (n ≡ self.ask + 1) × (ask_of time.clock time.short self ≡ (asking time.clock self, Ok (record { number = n; written = self.write })))) (λ e. ask_of time.clock time.short self ≡ (self, Err e)) }
     {
-        let part = self.settle(clock, short);
-        if part.hold.is_copy() {
-            return (part, Err(Refusal::HoldsCopy));
+        if self.hold.is_some() {
+            return Err(Refusal::HoldsCopy);
         }
-        if part.ask >= LAST - 1 || u64::MAX - short < clock {
-            return (part, Err(Refusal::Exhausted));
+        if self.ask >= LAST - 1 || !time.has_room() {
+            return Err(Refusal::Exhausted);
         }
-        let number = part.ask + 1;
-        let next = Part {
-            ask: number,
-            write: part.write,
-            asked: clock,
-            hold: part.hold,
-        };
-        (
-            next,
-            Ok(Asked {
-                number,
-                written: part.write,
-            }),
-        )
+        Ok(self.ask + 1)
+    }
+
+    /// Asks for the part.
+    pub fn ask(self, time: Timing) -> (Part, Result<Asked, Refusal>)
+        ensures { result ≡ ask_of time.clock time.short (settled time.clock time.short self) }
+    {
+        let part = self.settle(time);
+        match part.next_ask(time) {
+            Ok(number) => {
+                let written = part.write;
+                let next = Part {
+                    ask: number,
+                    asked: time.clock,
+                    ..part
+                };
+                (next, Ok(Asked { number, written }))
+            }
+            Err(e) => (part, Err(e)),
+        }
     }
 
     /// Whether the copy may be shown.
-    pub fn show(self, clock: u64, short: u64) -> (Part, Result<(), Refusal>)
-        ensures { result ≡ (settled clock short self, showing (settled clock short self).hold) }
+    pub fn show(self, time: Timing) -> (Part, Result<(), Refusal>)
+        ensures { result ≡ (settled time.clock time.short self, showing (settled time.clock time.short self).hold) }
     {
-        let part = self.settle(clock, short);
-        (part, part.hold.shows())
+        let part = self.settle(time);
+        (part, part.hold.ok_or(Refusal::NoCopy).map(|_| ()))
+    }
+
+    // The number of a write of the part, which is settled, or why it may not write.
+    fn next_write(self) -> Result<u32, Refusal>
+        ensures { MatchResult result (λ n. (n ≡ self.write + 1) × (write_of self ≡ (wrote self, Ok n))) (λ e. write_of self ≡ (self, Err e)) }
+    {
+        let copy = self.hold.ok_or(Refusal::NoCopy)?;
+        if copy.kind == Kind::Reading {
+            return Err(Refusal::ReadOnly);
+        }
+        self.write.checked_add(1).ok_or(Refusal::Exhausted)
     }
 
     /// Writes the part: the number of the write.
-    pub fn write(self, clock: u64, short: u64) -> (Part, Result<u32, Refusal>)
-        ensures { result ≡ write_of (settled clock short self) }
+    pub fn write(self, time: Timing) -> (Part, Result<u32, Refusal>)
+        ensures { result ≡ write_of (settled time.clock time.short self) }
     {
-        let part = self.settle(clock, short);
-        match part.hold.lets_write() {
-            Err(e) => (part, Err(e)),
-            Ok(_) => {
-                if part.write >= LAST {
-                    return (part, Err(Refusal::Exhausted));
-                }
-                let number = part.write + 1;
+        let part = self.settle(time);
+        match part.next_write() {
+            Ok(number) => {
                 let next = Part {
-                    ask: part.ask,
                     write: number,
-                    asked: part.asked,
-                    hold: part.hold,
+                    ..part
                 };
                 (next.release(), Ok(number))
             }
+            Err(e) => (part, Err(e)),
         }
-    }
-
-    /// Lets go of the copy, if there is one.
-    pub fn forget(self) -> Part
-        ensures { result ≡ released self }
-    {
-        self.release()
     }
 
     /// A loan comes.
     pub fn on_loan(self, number: u32, kind: Kind) -> (Part, Result<(), Refusal>)
         ensures { result ≡ loan_of number kind self }
     {
-        if self.hold.is_copy() {
+        if self.hold.is_some() {
             return (self, Err(Refusal::HoldsCopy));
         }
         if number != self.ask {
             return (self, Err(Refusal::OtherAsk));
         }
         let asked = self.asked;
-        let hold = Hold::Copy { kind, asked };
-        (
-            Part {
-                ask: self.ask,
-                write: self.write,
-                asked: self.asked,
-                hold,
-            },
-            Ok(()),
-        )
+        let hold = Some(Held { kind, asked });
+        (Part { hold, ..self }, Ok(()))
     }
 
     /// A recall comes: the number that is said back.
@@ -210,18 +152,8 @@ impl Part {
             ask,
             write: file.write,
             asked: 0,
-            hold: Hold::Nothing,
+            hold: None,
         }
-    }
-
-    /// Whether it is as the other.
-    pub fn same(self, other: Part) -> bool
-        ensures { result ≡ same_part self other }
-    {
-        self.ask == other.ask
-            && self.write == other.write
-            && self.asked == other.asked
-            && self.hold.same(other.hold)
     }
 }
 
@@ -229,11 +161,14 @@ impl Part {
 fn round_up(x: u32) -> u32
     ensures { result ≡ rounded x }
 {
-    if x > LAST - 63 {
-        LAST
-    } else {
-        (x + 63) / 64 * 64
-    }
+    x.div_ceil(64).saturating_mul(64)
+}
+
+// A number on file, raised where the part's passes it.
+fn raise(filed: u32, number: u32) -> u32
+    ensures { result ≡ cond (nat_le number filed) filed (rounded number) }
+{
+    if number <= filed { filed } else { round_up(number) }
 }
 
 impl OnFile {
@@ -248,16 +183,9 @@ impl OnFile {
     pub fn raised(self, part: Part) -> OnFile
         ensures { result ≡ kept_of self part }
     {
-        let ask = if part.ask <= self.ask {
-            self.ask
-        } else {
-            round_up(part.ask)
-        };
-        let write = if part.write <= self.write {
-            self.write
-        } else {
-            round_up(part.write)
-        };
-        OnFile { ask, write }
+        OnFile {
+            ask: raise(self.ask, part.ask),
+            write: raise(self.write, part.write),
+        }
     }
 }

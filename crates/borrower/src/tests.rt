@@ -1,5 +1,5 @@
 // The life of a part at the edges of its numbers and of its clock.
-use crate::hold::{Hold, OnFile, Part};
+use crate::hold::{Held, OnFile, Part, Timing};
 use crate::outcome::{Call, Outcome};
 use crate::tablet::Tablet;
 use journal::store::Store;
@@ -7,13 +7,14 @@ use journal::store::failing::FailingStore;
 use journal::store::memory::MemoryStore;
 use message::form::Message;
 use message::kind::Kind;
+use message::refusal::Refusal;
 use part::place::Place;
 use part::who::Who;
 use std::test::Fail;
 
 const LAST: u32 = 4294967295;
 
-fn part(ask: u32, write: u32, hold: Hold) -> Part {
+fn part(ask: u32, write: u32, hold: Option<Held>) -> Part {
     Part {
         ask,
         write,
@@ -22,35 +23,32 @@ fn part(ask: u32, write: u32, hold: Hold) -> Part {
     }
 }
 
-// The number by which it is refused, or 0.
-fn refusal<T: Drop>(res: Result<T, message::refusal::Refusal>) -> u8 {
-    match res {
-        Ok(_) => 0,
-        Err(refusal) => refusal.number(),
-    }
+// What the clock reads, where a copy is valid for 100.
+fn at(clock: u64) -> Timing {
+    Timing { clock, short: 100 }
 }
 
 #[test]
 fn numbers_at_their_end(rt: HostRuntime) {
-    let writing = Hold::Copy {
+    let writing = Some(Held {
         kind: Kind::Writing,
         asked: 1000,
-    };
-    // an ask number, what an ask answers, and the ask number afterwards
-    for (ask, answer, after) in [
-        (LAST - 2, 0, LAST - 1),
-        (LAST - 1, 9, LAST - 1),
-        (LAST, 9, LAST),
+    });
+    // an ask number, why an ask is refused, and the ask number afterwards
+    for (ask, refusal, after) in [
+        (LAST - 2, None, LAST - 1),
+        (LAST - 1, Some(Refusal::Exhausted), LAST - 1),
+        (LAST, Some(Refusal::Exhausted), LAST),
     ] {
-        let (next, result) = part(ask, 0, Hold::Nothing).ask(1000, 100);
-        assert_eq!(rt; refusal(result), answer);
+        let (next, result) = part(ask, 0, None).ask(at(1000));
+        assert_eq!(rt; result.err(), refusal);
         assert_eq!(rt; next.ask, after);
     }
     assert_eq!(rt; part(LAST, 0, writing).release().ask, LAST);
-    // a write number, and what a write answers
-    for (write, answer) in [(LAST - 1, 0), (LAST, 9)] {
-        let (next, result) = part(5, write, writing).write(1000, 100);
-        assert_eq!(rt; refusal(result), answer);
+    // a write number, and why a write is refused
+    for (write, refusal) in [(LAST - 1, None), (LAST, Some(Refusal::Exhausted))] {
+        let (next, result) = part(5, write, writing).write(at(1000));
+        assert_eq!(rt; result.err(), refusal);
         assert_eq!(rt; next.write, LAST);
     }
     // on file: the ask number after coming up
@@ -68,18 +66,23 @@ fn numbers_at_their_end(rt: HostRuntime) {
 
 #[test]
 fn clocks_at_their_edges(rt: HostRuntime) {
-    let copy = Hold::Copy {
+    let copy = Some(Held {
         kind: Kind::Reading,
         asked: 1000,
-    };
-    for (clock, answer) in [(1000, 0), (1099, 0), (1100, 2), (u64::MAX, 2)] {
-        let (_, result) = part(1, 0, copy).show(clock, 100);
-        assert_eq!(rt; refusal(result), answer);
+    });
+    for (clock, answer) in [
+        (1000, Ok(())),
+        (1099, Ok(())),
+        (1100, Err(Refusal::NoCopy)),
+        (u64::MAX, Err(Refusal::NoCopy)),
+    ] {
+        let (_, result) = part(1, 0, copy).show(at(clock));
+        assert_eq!(rt; result, answer);
     }
-    let (_, result) = part(1, 0, Hold::Nothing).ask(u64::MAX - 100, 100);
-    assert_eq!(rt; refusal(result), 0);
-    let (_, result) = part(1, 0, Hold::Nothing).ask(u64::MAX - 99, 100);
-    assert_eq!(rt; refusal(result), 9);
+    let (_, result) = part(1, 0, None).ask(at(u64::MAX - 100));
+    assert_eq!(rt; result.err(), None);
+    let (_, result) = part(1, 0, None).ask(at(u64::MAX - 99));
+    assert_eq!(rt; result.err(), Some(Refusal::Exhausted));
 }
 
 #[test]
@@ -93,7 +96,7 @@ fn rounding(rt: HostRuntime) {
         (LAST - 62, LAST),
         (LAST, LAST),
     ] {
-        let numbers = OnFile { ask: 0, write: 7 }.raised(part(ask, 0, Hold::Nothing));
+        let numbers = OnFile { ask: 0, write: 7 }.raised(part(ask, 0, None));
         assert_eq!(rt; numbers.ask, raised);
         assert_eq!(rt; numbers.write, 7);
     }
@@ -101,11 +104,8 @@ fn rounding(rt: HostRuntime) {
 
 // The number of an ask that is sent, or 0.
 fn asked(outcome: Outcome) -> u32 {
-    let Some(message) = outcome.send else {
-        return 0;
-    };
-    match message {
-        Message::Ask { head, .. } => head.number,
+    match outcome.send {
+        Some(Message::Ask { head, .. }) => head.number,
         _ => 0,
     }
 }
@@ -113,22 +113,14 @@ fn asked(outcome: Outcome) -> u32 {
 // Comes up again and again from its journal: each ask has a number above all before.
 #[test]
 fn numbers_only_rise(rt: HostRuntime) -> Result<(), Fail> {
-    let Some(who) = Who::new(5) else {
-        return Err(Fail::new("no borrower"));
-    };
-    let Some(place) = Place::new(3, 7) else {
-        return Err(Fail::new("no part"));
-    };
+    let who = Who::new(5).ok_or("no borrower")?;
+    let place = Place::new(3, 7).ok_or("no part")?;
     let mut store = MemoryStore::new(rt.alloc());
     let mut last = 0;
     for _ in 0..5 {
-        let Ok(mut tablet) = Tablet::open(rt.alloc(), who, 100, &mut store) else {
-            return Err(Fail::new("not opened"));
-        };
+        let mut tablet = Tablet::open(rt.alloc(), who, 100, &mut store)?;
         for _ in 0..70 {
-            let Ok(outcome) = tablet.call(&mut store, 1000, place, Call::Ask(Kind::Reading)) else {
-                return Err(Fail::new("not written"));
-            };
+            let outcome = tablet.call(&mut store, 1000, place, Call::Ask(Kind::Reading))?;
             let number = asked(outcome);
             assert!(rt; number > last);
             last = number;
@@ -141,12 +133,8 @@ fn numbers_only_rise(rt: HostRuntime) -> Result<(), Fail> {
 // Where the store fails nothing is answered.
 #[test]
 fn a_store_that_fails(rt: HostRuntime) -> Result<(), Fail> {
-    let Some(who) = Who::new(5) else {
-        return Err(Fail::new("no borrower"));
-    };
-    let Some(place) = Place::new(3, 7) else {
-        return Err(Fail::new("no part"));
-    };
+    let who = Who::new(5).ok_or("no borrower")?;
+    let place = Place::new(3, 7).ok_or("no part")?;
     let mut tablet = Tablet::new(rt.alloc(), who, 100)?;
     let mut store = FailingStore::new(rt.alloc(), 1);
     assert!(rt;

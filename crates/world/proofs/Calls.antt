@@ -10,12 +10,11 @@ use Rattle.message.specs.declared.kind.Kind.{Kind}
 use Rattle.message.specs.declared.refusal.Refusal.{Refusal}
 use Rattle.message.specs.declared.refusal.Refusal.TheVariants.{HoldsCopy, OtherAsk, Exhausted}
 use Rattle.message.specs.Format.{Msg, Ask, Loan, Write, Back}
-use Rattle.borrower.specs.declared.hold.Hold.{Hold}
-use Rattle.borrower.specs.declared.hold.Hold.TheVariants.{Copy}
+use Rattle.borrower.specs.declared.hold.Held.{Held as InHand}
 use Rattle.borrower.specs.declared.hold.Part.{Part}
 use Rattle.borrower.specs.declared.hold.OnFile.{OnFile}
 use Rattle.borrower.specs.declared.hold.Asked.{Asked}
-use Rattle.borrower.specs.Steps.{last_number, holds, released, settled, asking, ask_of, writable, wrote, write_by, write_of, lent, loan_of}
+use Rattle.borrower.specs.Steps.{last_number, copy, holds, released, settled, asking, ask_of, writable, wrote, write_by, write_of, lent, loan_of}
 use Rattle.borrower.specs.Outcomes.{ask_sends, write_sends, taken}
 use Rattle.borrower.specs.Used.{Near, on_file}
 use Rattle.borrower.proofs.Used.{Small, after, filed_up, Settled, settling, small_write, released_small, recall_covered}
@@ -26,8 +25,11 @@ use Rattle.world.proofs.Move.{overtake, release_moves, filing_moves, settle_move
 use Rattle.world.proofs.Borrow.{held_more, WriteOf}
 use Rattle.world.proofs.View.{view, stepped, part_moves}
 
-holds_none : (h : Hold) → holds h ≡ false → (k : Kind) (a : ℕ) → h ≡ Copy k a → ⊥
-holds_none h e k a c = both_ways (holds h) e (ap holds c)
+holds_none : (p : Part) → holds p.hold ≡ false → (k : Kind) (a : ℕ) → p.hold ≡ copy k a → ⊥
+holds_none p e k a c = both_ways (holds p.hold) e (ap holds c)
+
+same_copy : (k l : Kind) (a b : ℕ) → copy k a ≡ copy l b → (k ≡ l) × (a ≡ b)
+same_copy k l a b e = let s : ◌≡◌ {A = InHand} (record { kind = k; asked = a }) (record { kind = l; asked = b }) = cc in (ap (λ (x : InHand). x.kind) s, ap (λ (x : InHand). x.asked) s)
 
 pub nobody : (x y : Msg) → Memᴰ x [] → Memᴰ y [] → WriteOf x → x ≡ y
 nobody x y h = elim h [ ]
@@ -101,7 +103,7 @@ module _ (S : Setting) (w : World) (past : List Moment) (ms : List Msg) (H : Lis
           tt,
         )
         (alone (Ask i q (p1.ask + 1) k p1.write)) (λ r ne. refl)
-        (λ l b h. absurd (holds_none p1.hold none l b h))
+        (λ l b h. absurd (holds_none p1 none l b h))
 
     pub ask_inv : (k : Kind) → c ≡ w.now.hand (suc i) → AfterStep (ask_of c s p1).0 cs (ask_sends i q k (ask_of c s p1).1)
     ask_inv k clock =
@@ -168,7 +170,7 @@ module _ (S : Setting) (w : World) (past : List Moment) (ms : List Msg) (H : Lis
       here = simp (eq-eqb q q refl)
 
       held : n ≡ p.ask → Held (ms ++ []) i q (lent k p) v
-      held e l a h = let m : Loan i q p.ask l v ≡ Loan i q n k v = cc in (Memᴰ.append_left [] (Memᴰ.cast m mem), cc)
+      held e l a h = let s = same_copy k l p.asked a h in let m : Loan i q p.ask l v ≡ Loan i q n k v = cc in (Memᴰ.append_left [] (Memᴰ.cast m mem), sym s.1)
 
       takes : n ≡ p.ask → AfterStep (lent k p) (at_1 q v cs) []
       takes e =

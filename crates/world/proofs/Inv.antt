@@ -8,10 +8,9 @@ use Rattle.message.specs.declared.kind.Kind.{Kind}
 use Rattle.message.specs.declared.kind.Kind.TheVariants.{Reading}
 use Rattle.message.specs.Format.{Msg, Ask, Loan, Write, In, Void, Recall, Back}
 use Rattle.lease.specs.declared.lease.Lease.{Lease}
-use Rattle.borrower.specs.declared.hold.Hold.TheVariants.{Copy}
 use Rattle.borrower.specs.declared.hold.Part.{Part}
 use Rattle.borrower.specs.declared.hold.OnFile.{OnFile}
-use Rattle.borrower.specs.Steps.{last_number}
+use Rattle.borrower.specs.Steps.{last_number, copy}
 use Rattle.borrower.specs.Used.{Near}
 use Rattle.world.specs.Runs.{Put}
 use Rattle.world.specs.Promise.{latest, NotIn, Once}
@@ -130,7 +129,7 @@ Fine S now past L H p d (Back i q m) = Gone p d m
 
 -- a copy that is held came in a loan for the last ask
 abbrev pub Held : (sent : List Msg) (i q : ℕ) → Part → (bytes : List ℕ) → Type 0
-Held sent i q p v = (k : Kind) (a : ℕ) → p.hold ≡ Copy k a → Memᴰ (Loan i q p.ask k v) sent × (a ≡ p.asked)
+Held sent i q p v = (k : Kind) (a : ℕ) → p.hold ≡ copy k a → Memᴰ (Loan i q p.ask k v) sent × (a ≡ p.asked)
 
 pub record Inv (S : Setting) (w : State) : Type 0 where
   pub mail : (m : Msg) → Memᴰ m w.sent → Fine S w.now w.past w.keeper w.applied (w.part (who m) (place m)) (w.disk (who m) (place m)) m

@@ -1,17 +1,12 @@
 -- What each call and message does to a borrower's part lets all that was sent fit still.
 -- Assumes nothing.
-use Rattle.std.proofs.Common.{◌≡◌, ℕ, ◌+◌, ◌<◌, ◌≤◌, min, Bool, true, false, cond, eqb, leb, List, sym, refl, ◌∙◌, arith}
+use Rattle.std.proofs.Common.{◌≡◌, ℕ, ◌+◌, ◌<◌, ◌≤◌, min, Bool, true, false, cond, eqb, leb, List, None, refl, arith}
 use Rattle.std.proofs.lemmas.Bool.{cond_both, eqb-true, leb-true, leb-false}
-use Rattle.message.specs.declared.kind.Kind.{Kind}
 use Rattle.message.specs.Format.{Msg}
-use Rattle.borrower.specs.declared.hold.Hold.TheVariants.{Nothing, Copy}
 use Rattle.borrower.specs.declared.hold.Part.{Part}
 use Rattle.borrower.specs.declared.hold.OnFile.{OnFile}
 use Rattle.borrower.specs.Steps.{last_number, stale, released, settled, rounded, kept_of, risen}
 use Rattle.world.proofs.Inv.{Past, Gone, Wrote, Held, Moved, moved_refl}
-
-pub nothing≢copy : {k : Kind} {a : ℕ} → Nothing ≡ Copy k a → ⊥
-nothing≢copy {k} {a} e = let z : ◌≡◌ {A = ℕ} 0 1 = cc in omega arith
 
 -- every used number is overtaken
 pub overtake : (p : Part) (d : OnFile) (p' : Part) (d' : OnFile) → ((m : ℕ) → Past p d m → m < p'.ask) → d.ask ≤ d'.ask → ((m : ℕ) → Gone p d m → p'.ask < last_number → m < p'.ask) →
@@ -48,7 +43,7 @@ settle_moves c s p d = cond_both (stale c s p.hold) (released p) p (λ x. Moved 
 pub rise_moves : (p : Part) (d d' : OnFile) → d.ask ≤ d'.ask → d.write ≤ d'.write → p.write ≤ d.write → Moved p d (risen d') d'
 rise_moves p d d' a b below = go (eqb d'.ask 0) refl
   where
-    go : (x : Bool) → eqb d'.ask 0 ≡ x → Moved p d (record { ask = cond x 0 (min last_number (d'.ask + 1)); write = d'.write; asked = 0; hold = Nothing }) d'
+    go : (x : Bool) → eqb d'.ask 0 ≡ x → Moved p d (record { ask = cond x 0 (min last_number (d'.ask + 1)); write = d'.write; asked = 0; hold = None }) d'
     go true e = overtake p d _ d' (λ m h. omega (arith, h.pos, h.filed, eqb-true d'.ask 0 e)) a (λ m h x. let y : m < d.ask = h.filed (omega (arith, eqb-true d'.ask 0 e)) in omega (arith, eqb-true d'.ask 0 e)) (λ n h. record { written = omega (arith, h.filed); filed = omega (arith, h.filed) }) (λ h. omega arith)
     go false e = overtake p d _ d' (λ m h. omega (arith, h.small, h.filed)) a (λ m h x. let y : m < d.ask = h.filed (omega arith) in omega arith) (λ n h. record { written = omega (arith, h.filed); filed = omega (arith, h.filed) }) (λ h. omega arith)
 
@@ -68,8 +63,8 @@ pub record Files (p : Part) (d d' : OnFile) : Type 0 where
 pub files : (p : Part) (d : OnFile) → (d.ask < p.ask → p.ask ≤ last_number) → (d.write < p.write → p.write ≤ last_number) → Files p d (kept_of d p)
 files p d a w = record { ask = number_up p.ask d.ask a; write = number_up p.write d.write w }
 
-pub none_held : (sent : List Msg) (i q : ℕ) (p : Part) (v : List ℕ) → p.hold ≡ Nothing → Held sent i q p v
-none_held sent i q p v e k a h = absurd (nothing≢copy (sym e ∙ h))
+pub none_held : (sent : List Msg) (i q : ℕ) (p : Part) (v : List ℕ) → p.hold ≡ None → Held sent i q p v
+none_held sent i q p v e k a h = absurd (cc)
 
 pub settle_held : (sent : List Msg) (i q c s : ℕ) (p : Part) (v : List ℕ) → Held sent i q p v → Held sent i q (settled c s p) v
 settle_held sent i q c s p v hd = cond_both (stale c s p.hold) (released p) p (λ x. Held sent i q x v) (λ e. none_held sent i q (released p) v refl) (λ e. hd)

@@ -12,8 +12,8 @@ use Rattle.message.specs.Reading.{read}
 use Rattle.journal.specs.declared.record.Owner.TheVariants as owner
 use Rattle.journal.specs.Records.{records_of}
 use Rattle.lender.specs.Replay.{memory}
-use Rattle.borrower.specs.declared.hold.Hold.TheVariants.{Copy}
 use Rattle.borrower.specs.declared.outcome.Call.TheVariants.{Show, Write}
+use Rattle.borrower.specs.Steps.{copy}
 use Rattle.world.specs.World.{World, Event, call, recovered, call_effect}
 use Rattle.world.specs.Runs.{Put, puts, Run, moments, run, start}
 
@@ -26,7 +26,7 @@ latest q (p ∷ ps) = cond (q == p.place) p.bytes (latest q ps)
 pub record MayShow (w : World) (i q : ℕ) (k : Kind) : Type 0 where
   pub up : (w.borrower i).up ≡ true
   pub asked : ℕ
-  pub holds : ((w.borrower i).parts q).hold ≡ Copy k asked
+  pub holds : ((w.borrower i).parts q).hold ≡ copy k asked
   pub valid : w.now.hand (suc i) < asked + w.short
 
 -- the message was sent, at some time

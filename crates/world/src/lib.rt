@@ -5,8 +5,6 @@
 ghost use Rattle.world.specs.Laws.{TimeGoesOn};
 
 /// Names the law that in every run the true time and all clocks only go on.
-pub fn time_goes_on() -> u8
+pub fn time_goes_on()
     ensures { TimeGoesOn }
-{
-    0
-}
+{}

@@ -3,6 +3,7 @@ ghost use Rattle.borrower.specs.Steps.{settled, released};
 ghost use Rattle.borrower.specs.Tablets.{part_at, filed_at};
 ghost use Rattle.borrower.specs.Outcomes.{effect, Stepped, asked_part, written_part, ask_effect, show_effect, write_effect, forget_effect, call_effect, call_part};
 
+use crate::hold::Timing;
 use crate::outcome::{Call, Outcome};
 use crate::tablet::Tablet;
 use message::form::Message;
@@ -11,39 +12,35 @@ use part::head::Head;
 use part::place::Place;
 
 impl Tablet {
+    // By what its copies count as valid at this clock reading.
+    fn timing(&self, clock: u64) -> Timing
+        ensures { result ≡ record { clock = clock; short = self.now.short } }
+    {
+        let short = self.short;
+        Timing { clock, short }
+    }
+
     /// Asks for a part.
     pub fn ask(&mut self, clock: u64, place: Place, kind: Kind) -> Outcome
         ensures effect { (v : List ℕ) → effect v result ≡ ask_effect self.old.who.id place.at kind clock self.old.short (part_at self.old place.at) (filed_at self.old place.at) }
         ensures left { Stepped self.old self.new place.at (asked_part clock self.old.short (part_at self.old place.at)) }
     {
-        let who = self.who;
-        let (next, answer) = self.part(place).ask(clock, self.short);
+        let (next, answer) = self.part(place).ask(self.timing(clock));
         let record = self.keep(place, next);
         match answer {
-            Ok(asked) => {
-                let head = Head {
-                    who,
-                    place,
-                    number: asked.number,
-                };
-                let send = Some(Message::Ask {
-                    head,
+            Ok(asked) => Outcome::sending(
+                record,
+                Message::Ask {
+                    head: Head {
+                        who: self.who,
+                        place,
+                        number: asked.number,
+                    },
                     kind,
                     written: asked.written,
-                });
-                Outcome {
-                    record,
-                    send,
-                    told: None,
-                    answer: Ok(()),
-                }
-            }
-            Err(e) => Outcome {
-                record,
-                send: None,
-                told: None,
-                answer: Err(e),
-            },
+                },
+            ),
+            Err(e) => Outcome::answering(record, Err(e)),
         }
     }
 
@@ -52,14 +49,8 @@ impl Tablet {
         ensures effect { (v : List ℕ) → effect v result ≡ show_effect place.at clock self.old.short (part_at self.old place.at) (filed_at self.old place.at) }
         ensures left { Stepped self.old self.new place.at (settled clock self.old.short (part_at self.old place.at)) }
     {
-        let (next, answer) = self.part(place).show(clock, self.short);
-        let record = self.keep(place, next);
-        Outcome {
-            record,
-            send: None,
-            told: None,
-            answer,
-        }
+        let (next, answer) = self.part(place).show(self.timing(clock));
+        Outcome::answering(self.keep(place, next), answer)
     }
 
     /// Writes a part. The bytes go out beside the message, and the copy is released.
@@ -68,24 +59,11 @@ impl Tablet {
         ensures left { Stepped self.old self.new place.at (written_part clock self.old.short (part_at self.old place.at)) }
     {
         let who = self.who;
-        let (next, answer) = self.part(place).write(clock, self.short);
+        let (next, answer) = self.part(place).write(self.timing(clock));
         let record = self.keep(place, next);
         match answer {
-            Ok(number) => {
-                let send = Some(Message::Write(Head { who, place, number }));
-                Outcome {
-                    record,
-                    send,
-                    told: None,
-                    answer: Ok(()),
-                }
-            }
-            Err(e) => Outcome {
-                record,
-                send: None,
-                told: None,
-                answer: Err(e),
-            },
+            Ok(number) => Outcome::sending(record, Message::Write(Head { who, place, number })),
+            Err(e) => Outcome::answering(record, Err(e)),
         }
     }
 
@@ -94,14 +72,8 @@ impl Tablet {
         ensures effect { (v : List ℕ) → effect v result ≡ forget_effect place.at (part_at self.old place.at) (filed_at self.old place.at) }
         ensures left { Stepped self.old self.new place.at (released (part_at self.old place.at)) }
     {
-        let next = self.part(place).forget();
-        let record = self.keep(place, next);
-        Outcome {
-            record,
-            send: None,
-            told: None,
-            answer: Ok(()),
-        }
+        let next = self.part(place).release();
+        Outcome::answering(self.keep(place, next), Ok(()))
     }
 
     /// Any call.

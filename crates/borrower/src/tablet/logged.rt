@@ -1,4 +1,4 @@
-ghost use Rattle.std.specs.Prelude.{◌≡◌, ℕ, List, [], IfOk, OnOk};
+ghost use Rattle.std.specs.Prelude.{◌≡◌, ℕ, List, [], IfOk};
 ghost use Rattle.message.specs.Reading.{read};
 ghost use Rattle.journal.specs.Logs.{Logged};
 ghost use Rattle.borrower.specs.Tablets.{part_at, filed_at};
@@ -7,18 +7,16 @@ ghost use Rattle.borrower.specs.Outcomes.{effect, recorded_by, Stepped, call_eff
 use crate::outcome::{Call, Outcome};
 use crate::tablet::Tablet;
 use journal::log::log;
-use journal::record::Record;
 use journal::store::{Store, StoreError};
 use part::place::Place;
 
-// Appends the record of an outcome, if there is one, and syncs.
-fn settle<S: Store>(store: &mut S, record: Option<Record>) -> Result<(), StoreError>
-    ensures { OnOk result (Logged (recorded_by «record») (S.appended store.old) (S.synced store.old) (S.appended store.new) (S.synced store.new)) }
+// The outcome, once its record, if there is one, is in the journal and synced.
+fn logged<S: Store>(store: &mut S, outcome: Outcome) -> Result<Outcome, StoreError>
+    ensures same { IfOk result (λ o. o ≡ outcome) }
+    ensures logged { IfOk result (λ o. Logged (recorded_by o.record) (S.appended store.old) (S.synced store.old) (S.appended store.new) (S.synced store.new)) }
 {
-    match record {
-        None => Ok(()),
-        Some(record) => log(store, Some(record), &[0; 1024]),
-    }
+    log(store, outcome.record, &[0; 1024])?;
+    Ok(outcome)
 }
 
 impl Tablet {
@@ -34,9 +32,7 @@ impl Tablet {
         ensures left { Stepped self.old self.new place.at (call_part clock self.old.short call (part_at self.old place.at)) }
         ensures logged { IfOk result (λ o. Logged (recorded_by o.record) (S.appended store.old) (S.synced store.old) (S.appended store.new) (S.synced store.new)) }
     {
-        let outcome = self.perform(clock, place, call);
-        settle(store, outcome.record)?;
-        Ok(outcome)
+        logged(store, self.perform(clock, place, call))
     }
 
     /// A message. Once it is answered, the record of it is in the journal, and synced.
@@ -45,8 +41,6 @@ impl Tablet {
         ensures left { Heard self.old self.new (read bytes.now) }
         ensures logged { IfOk result (λ o. Logged (recorded_by o.record) (S.appended store.old) (S.synced store.old) (S.appended store.new) (S.synced store.new)) }
     {
-        let outcome = self.receive(bytes);
-        settle(store, outcome.record)?;
-        Ok(outcome)
+        logged(store, self.receive(bytes))
     }
 }

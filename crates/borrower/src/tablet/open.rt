@@ -3,8 +3,8 @@ ghost use Rattle.borrower.specs.Tablets.{copy_at};
 ghost use Rattle.borrower.specs.Outcomes.{Fresh, Reread};
 ghost use Rattle.borrower.specs.Opened.{OpenedAs};
 
-use crate::hold::{Hold, OnFile, Part};
-use crate::tablet::{NoTablet, Tablet};
+use crate::hold::OnFile;
+use crate::tablet::{Kept, NoTablet, Tablet};
 use journal::record::{Owner, Record};
 use journal::replay::{Journaled, open};
 use journal::store::Store;
@@ -18,24 +18,12 @@ impl Tablet {
     pub fn new(heap: Global, who: Who, short: u64) -> Result<Tablet, AllocError>
         ensures { IfOk result (λ t. Fresh who short t) }
     {
-        let mut parts = Vec::new(heap);
-        parts.resize(
-            16384,
-            Part {
-                ask: 0,
-                write: 0,
-                asked: 0,
-                hold: Hold::Nothing,
-            },
-        )?;
-        let mut filed = Vec::new(heap);
-        filed.resize(16384, OnFile { ask: 0, write: 0 })?;
+        let kept = Vec::from_elem(heap, Kept::default(), 16384)?;
         let copies = Files::new(heap)?;
         Ok(Tablet {
             who,
             short,
-            parts,
-            filed,
+            kept,
             copies,
         })
     }
@@ -49,13 +37,9 @@ impl Tablet {
     ) -> Result<Tablet, NoTablet>
         ensures { OpenedAs (S.appended store.old) (S.appended store.new) (S.synced store.old) (S.synced store.new) who short result }
     {
-        let Ok(mut tablet) = Tablet::new(heap, who, short) else {
-            return Err(NoTablet::NoMemory);
-        };
-        match open(Owner::Borrower, store, &mut tablet) {
-            Ok(()) => Ok(tablet),
-            Err(why) => Err(NoTablet::NoJournal(why)),
-        }
+        let mut tablet = Tablet::new(heap, who, short)?;
+        open(Owner::Borrower, store, &mut tablet)?;
+        Ok(tablet)
     }
 
     /// The bytes of a copy; they may be shown only where `show` said so.
@@ -71,8 +55,7 @@ impl Journaled for Tablet {
 
     fn apply(&mut self, record: Record, part: &[u8; 1024]) {
         match record {
-            Record::Applied(_) => {}
-            Record::VoidUpTo(_) => {}
+            Record::Applied(_) | Record::VoidUpTo(_) => {}
             Record::Numbers { place, ask, write } => self.come_up(place, OnFile { ask, write }),
         }
     }

@@ -5,10 +5,10 @@ use Rattle.borrower.specs.Tablets.{no_numbers}
 use Rattle.borrower.proofs.Opened.{through}
 use Rattle.borrower.proofs.tablet.Tablet.open.Goals as goal
 
-pub returns-in-Ok-open : goal.returns-in-Ok-open
-returns-in-Ok-open g c =
-    let n = c.in-Ok.ensures in
-    let o = c.in-Ok-open.ensures in
-    let came = through c.args.who c.args.short _ c.in-Ok.tablet c.open.new.into (λ q. no_numbers)
+pub returns : goal.returns
+returns g c =
+    let n = c.in_ok-tablet.ensures in
+    let o = c.in_ok-open.ensures in
+    let came = through c.args.who c.args.short _ c.in_ok-tablet.tablet c.open.new.into (λ q. no_numbers)
     (record { filed = n.filed; parts = n.parts ∙ ap (λ (f : ℕ → OnFile). λ q. risen (f q)) (sym n.filed); short = n.short; who = n.who }) o.3 in
     (record { filed = came.filed; parts = came.parts; short = came.short; who = came.who }, o.0, o.1)
