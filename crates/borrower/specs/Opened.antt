@@ -4,13 +4,13 @@ use Rattle.std.specs.Prelude.{◌≡◌, ℕ, List, [], ◌∷◌, Ok, Err, Resu
 use Rattle.part.specs.declared.who.Who.{Who}
 use Rattle.part.specs.Parts.{at_1}
 use Rattle.journal.specs.declared.record.Owner.TheVariants as owner
+use Rattle.journal.specs.declared.replay.OpenError.{OpenError}
 use Rattle.journal.specs.declared.replay.OpenError.TheVariants as why
 use Rattle.journal.specs.Records.{Rec, Applied, VoidUpTo, Numbers, bytes_of, records_of}
 use Rattle.journal.specs.Reading.{Refused}
+use Rattle.journal.specs.Stores.{Disk}
 use Rattle.borrower.specs.declared.hold.OnFile.{OnFile}
 use Rattle.borrower.specs.declared.tablet.Tablet.{Tablet}
-use Rattle.borrower.specs.declared.tablet.NoTablet.{NoTablet}
-use Rattle.borrower.specs.declared.tablet.NoTablet.TheVariants as no
 use Rattle.borrower.specs.Steps.{risen}
 use Rattle.borrower.specs.Tablets.{part_at, filed_at, no_numbers}
 
@@ -30,8 +30,9 @@ pub record CameUp (w : Who) (s : ℕ) (file : List ℕ) (t : Tablet) : Type 0 wh
 
 -- what opening gives: a tablet that came up, its journal cut after the last whole record and on disk;
 -- a journal with something else in it is refused, and left as it was
-abbrev pub OpenedAs : (was is disk_was disk : List ℕ) → Who → (short : ℕ) → Result Tablet NoTablet → Type 0
-OpenedAs was is d d' w s (Ok t) = CameUp w s was t × (is ≡ bytes_of (records_of owner.Borrower was)) × (d' ≡ is)
-OpenedAs was is d d' w s (Err no.NoMemory) = (is ≡ was) × (d' ≡ d)
-OpenedAs was is d d' w s (Err (no.NoJournal why.Malformed)) = Refused owner.Borrower was × (is ≡ was) × (d' ≡ d)
-OpenedAs was is d d' w s (Err (no.NoJournal (why.Store e))) = Unit {0}
+abbrev pub OpenedAs : (was is : Disk) → Who → (short : ℕ) → Result Tablet OpenError → Type 0
+OpenedAs was is w s (Ok t) =
+    CameUp w s was.appended t × (is.appended ≡ bytes_of (records_of owner.Borrower was.appended)) × (is.synced ≡ is.appended)
+OpenedAs was is w s (Err why.NoMemory) = (is.appended ≡ was.appended) × (is.synced ≡ was.synced)
+OpenedAs was is w s (Err (why.Malformed o)) = (o ≡ owner.Borrower) × Refused owner.Borrower was.appended × (is.appended ≡ was.appended) × (is.synced ≡ was.synced)
+OpenedAs was is w s (Err (why.Store e)) = Unit {0}

@@ -1,13 +1,8 @@
 ghost use Rattle.std.specs.Prelude.{◌≡◌, vec_len};
-ghost use Rattle.borrower.specs.declared.tablet.NoTablet.TheVariants.{NoMemory, NoJournal};
 
-use crate::hold::{OnFile, Part, Timing};
-use journal::replay::OpenError;
+use crate::hold::{OnFile, Part};
 use part::files::Files;
 use part::who::Who;
-use std::alloc::AllocError;
-use std::error::Error;
-use std::fmt;
 
 pub mod calls;
 pub mod logged;
@@ -31,45 +26,3 @@ pub struct Tablet {
     copies: Files,
     ghost all: { vec_len kept ≡ 16384 },
 }
-
-/// Why there is no tablet.
-#[derive(Clone, Copy, Debug, PartialEq, Eq)]
-pub enum NoTablet {
-    /// there is no memory for the parts
-    NoMemory,
-    /// its journal could not be opened
-    NoJournal(OpenError),
-}
-
-impl From<AllocError> for NoTablet {
-    ghost from_gives = { λ _ e. e ≡ NoMemory };
-
-    fn from(_e: AllocError) -> NoTablet {
-        NoTablet::NoMemory
-    }
-}
-
-impl From<OpenError> for NoTablet {
-    ghost from_gives = { λ why e. e ≡ NoJournal why };
-
-    fn from(why: OpenError) -> NoTablet {
-        NoTablet::NoJournal(why)
-    }
-}
-
-// As a user of a program reads it, who calls the journal's file FILE.
-impl fmt::Display for NoTablet {
-    fn fmt<W: fmt::Write>(&self, f: &mut fmt::Formatter<W>) -> fmt::Result {
-        match self {
-            NoTablet::NoMemory => write!(f, "there is no memory for the parts"),
-            NoTablet::NoJournal(OpenError::Malformed) => {
-                write!(f, "FILE is no journal of a borrower; it is left as it is")
-            }
-            NoTablet::NoJournal(OpenError::Store(_)) => {
-                write!(f, "FILE could not be cut and synced")
-            }
-        }
-    }
-}
-
-impl Error for NoTablet {}

@@ -105,7 +105,7 @@ fn rounding(rt: HostRuntime) {
 // The number of an ask that is sent, or 0.
 fn asked(outcome: Outcome) -> u32 {
     match outcome.send {
-        Some(Message::Ask { head, .. }) => head.number,
+        Some(Message::Ask(ask)) => ask.head.number,
         _ => 0,
     }
 }

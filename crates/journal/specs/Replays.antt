@@ -26,6 +26,6 @@ abbrev pub Opened : {S T : Type 0} → (P : S → Rec → S → Type 0) → Owne
 Opened P o was is s t (Ok x) =
     (is.appended ≡ bytes_of (records_of o was.appended)) × (is.synced ≡ is.appended) × Torn o (rest_of o was.appended) × Through P s (records_of o was.appended) t
 Opened P o was is s t (Err why.NoMemory) = ⊥
-Opened P o was is s t (Err why.Malformed) = Refused o was.appended × (is.appended ≡ was.appended) × (is.synced ≡ was.synced) × (s ≡ t)
+Opened P o was is s t (Err (why.Malformed p)) = (p ≡ o) × Refused o was.appended × (is.appended ≡ was.appended) × (is.synced ≡ was.synced) × (s ≡ t)
 Opened P o was is s t (Err (why.Store e)) =
     ((is.appended ≡ was.appended) ⊎ (is.appended ≡ bytes_of (records_of o was.appended))) × Torn o (rest_of o was.appended) × Through P s (records_of o was.appended) t

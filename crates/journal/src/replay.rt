@@ -3,7 +3,7 @@ ghost use Rattle.journal.specs.Records.{Rec, recorded, WellFormed};
 ghost use Rattle.journal.specs.Reading.{ending};
 ghost use Rattle.journal.specs.Replays.{Replayed, Opened};
 ghost use Rattle.journal.specs.Stores.{ShortenedSafe};
-ghost use Rattle.journal.specs.declared.replay.OpenError.TheVariants.{NoMemory, Malformed as NoJournal, Store as NoStore};
+ghost use Rattle.journal.specs.declared.replay.OpenError.TheVariants.{NoMemory, Store as NoStore};
 
 use crate::read::{next_record, whole};
 use crate::record::{Owner, Record};
@@ -19,17 +19,23 @@ use std::fmt;
 pub enum OpenError {
     /// there is no memory for what it says
     NoMemory,
-    /// something in it is neither torn nor a record
-    Malformed,
+    /// something in it is neither torn nor a record of this owner's
+    Malformed(Owner),
     /// it could not be cut and synced
     Store(StoreError),
 }
 
+// As whoever started a program reads it, who calls the journal's file FILE.
 impl fmt::Display for OpenError {
     fn fmt<W: fmt::Write>(&self, f: &mut fmt::Formatter<W>) -> fmt::Result {
         f.write_str(match self {
             OpenError::NoMemory => "there is no memory for the parts",
-            OpenError::Malformed => "FILE is no journal of this program; it is left as it is",
+            OpenError::Malformed(Owner::Keeper) => {
+                "FILE is no journal of a keeper; it is left as it is"
+            }
+            OpenError::Malformed(Owner::Borrower) => {
+                "FILE is no journal of a borrower; it is left as it is"
+            }
             OpenError::Store(_) => "FILE could not be cut and synced",
         })
     }
@@ -42,14 +48,6 @@ impl From<AllocError> for OpenError {
 
     fn from(_: AllocError) -> OpenError {
         OpenError::NoMemory
-    }
-}
-
-impl From<Malformed> for OpenError {
-    ghost from_gives = { λ _ e. e ≡ NoJournal };
-
-    fn from(_: Malformed) -> OpenError {
-        OpenError::Malformed
     }
 }
 
@@ -115,7 +113,7 @@ pub fn open<S: Store, R: Journaled>(
 ) -> Result<(), OpenError>
     ensures { Opened R.becomes owner (S.disk store.old) (S.disk store.new) into.old into.new result }
 {
-    let size = replay(owner, store.content(), into)?;
+    let size = replay(owner, store.content(), into).map_err(|_| OpenError::Malformed(owner))?;
     shorten(store, size)?;
     Ok(())
 }

@@ -263,7 +263,7 @@ fn a_refused_journal_changes_nothing(rt: HostRuntime) -> Result<(), Fail> {
     let mut seen = NONE;
     assert_eq!(rt;
         open(Owner::Keeper, &mut store, &mut seen),
-        Err(OpenError::Malformed)
+        Err(OpenError::Malformed(Owner::Keeper))
     );
     assert!(rt; seen.next == 0 && store.content().len() == size);
     Ok(())

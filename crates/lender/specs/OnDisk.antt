@@ -25,5 +25,5 @@ abbrev pub OpenedAs : (was is : Disk) (long : ℕ) → Result Keeper OpenError �
 OpenedAs was is l (Ok k) =
     OnDisk k is.appended × (is.appended ≡ bytes_of (records_of owner.Keeper was.appended)) × (is.synced ≡ is.appended) × ((keeper_book k).long ≡ l)
 OpenedAs was is l (Err why.NoMemory) = (is.appended ≡ was.appended) × (is.synced ≡ was.synced)
-OpenedAs was is l (Err why.Malformed) = Refused owner.Keeper was.appended × (is.appended ≡ was.appended) × (is.synced ≡ was.synced)
+OpenedAs was is l (Err (why.Malformed o)) = (o ≡ owner.Keeper) × Refused owner.Keeper was.appended × (is.appended ≡ was.appended) × (is.synced ≡ was.synced)
 OpenedAs was is l (Err (why.Store e)) = Unit {0}

@@ -3,10 +3,10 @@ ghost use Rattle.borrower.specs.Steps.{settled, released};
 ghost use Rattle.borrower.specs.Tablets.{part_at, filed_at};
 ghost use Rattle.borrower.specs.Outcomes.{effect, Stepped, asked_part, written_part, ask_effect, show_effect, write_effect, forget_effect, call_effect, call_part};
 
-use crate::hold::Timing;
+use crate::hold::{Asked, Timing};
 use crate::outcome::{Call, Outcome};
 use crate::tablet::Tablet;
-use message::form::Message;
+use message::form::{Ask, Message};
 use message::kind::Kind;
 use part::head::Head;
 use part::place::Place;
@@ -25,21 +25,19 @@ impl Tablet {
         ensures effect { (v : List ℕ) → effect v result ≡ ask_effect self.old.who.id place.at kind clock self.old.short (part_at self.old place.at) (filed_at self.old place.at) }
         ensures left { Stepped self.old self.new place.at (asked_part clock self.old.short (part_at self.old place.at)) }
     {
+        let who = self.who;
         let (next, answer) = self.part(place).ask(self.timing(clock));
         let record = self.keep(place, next);
         match answer {
-            Ok(asked) => Outcome::sending(
-                record,
-                Message::Ask {
-                    head: Head {
-                        who: self.who,
-                        place,
-                        number: asked.number,
-                    },
+            Ok(Asked { number, written }) => {
+                let head = Head { who, place, number };
+                let ask = Ask {
+                    head,
                     kind,
-                    written: asked.written,
-                },
-            ),
+                    written,
+                };
+                Outcome::sending(record, Message::Ask(ask))
+            }
             Err(e) => Outcome::answering(record, Err(e)),
         }
     }

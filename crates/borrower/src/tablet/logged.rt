@@ -13,7 +13,7 @@ use part::place::Place;
 // The outcome, once its record, if there is one, is in the journal and synced.
 fn logged<S: Store>(store: &mut S, outcome: Outcome) -> Result<Outcome, StoreError>
     ensures same { IfOk result (λ o. o ≡ outcome) }
-    ensures logged { IfOk result (λ o. Logged (recorded_by o.record) (S.appended store.old) (S.synced store.old) (S.appended store.new) (S.synced store.new)) }
+    ensures logged { IfOk result (λ o. Logged (recorded_by o.record) (S.disk store.old) (S.disk store.new)) }
 {
     log(store, outcome.record, &[0; 1024])?;
     Ok(outcome)
@@ -30,7 +30,7 @@ impl Tablet {
     ) -> Result<Outcome, StoreError>
         ensures effect { IfOk result (λ o. (v : List ℕ) → effect v o ≡ call_effect self.old.who.id place.at v clock self.old.short call (part_at self.old place.at) (filed_at self.old place.at)) }
         ensures left { Stepped self.old self.new place.at (call_part clock self.old.short call (part_at self.old place.at)) }
-        ensures logged { IfOk result (λ o. Logged (recorded_by o.record) (S.appended store.old) (S.synced store.old) (S.appended store.new) (S.synced store.new)) }
+        ensures logged { IfOk result (λ o. Logged (recorded_by o.record) (S.disk store.old) (S.disk store.new)) }
     {
         logged(store, self.perform(clock, place, call))
     }
@@ -39,7 +39,7 @@ impl Tablet {
     pub fn hear<S: Store>(&mut self, store: &mut S, bytes: &[u8]) -> Result<Outcome, StoreError>
         ensures effect { IfOk result (λ o. effect [] o ≡ heard_effect self.old.who.id (read bytes.now) (part_at self.old) (filed_at self.old)) }
         ensures left { Heard self.old self.new (read bytes.now) }
-        ensures logged { IfOk result (λ o. Logged (recorded_by o.record) (S.appended store.old) (S.synced store.old) (S.appended store.new) (S.synced store.new)) }
+        ensures logged { IfOk result (λ o. Logged (recorded_by o.record) (S.disk store.old) (S.disk store.new)) }
     {
         logged(store, self.receive(bytes))
     }

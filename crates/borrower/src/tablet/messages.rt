@@ -68,7 +68,7 @@ impl Tablet {
             },
             Message::Recall { who, place } => self.on_recall(who, place),
             Message::In(head) | Message::Void(head) => self.on_written(head, message),
-            Message::Ask { .. } | Message::Write(_) | Message::Back(_) => Outcome::turned_away(),
+            Message::Ask(_) | Message::Write(_) | Message::Back(_) => Outcome::turned_away(),
         }
     }
 }

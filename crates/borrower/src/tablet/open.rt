@@ -4,9 +4,9 @@ ghost use Rattle.borrower.specs.Outcomes.{Fresh, Reread};
 ghost use Rattle.borrower.specs.Opened.{OpenedAs};
 
 use crate::hold::OnFile;
-use crate::tablet::{Kept, NoTablet, Tablet};
+use crate::tablet::{Kept, Tablet};
 use journal::record::{Owner, Record};
-use journal::replay::{Journaled, open};
+use journal::replay::{Journaled, OpenError, open};
 use journal::store::Store;
 use part::files::Files;
 use part::place::Place;
@@ -34,8 +34,8 @@ impl Tablet {
         who: Who,
         short: u64,
         store: &mut S,
-    ) -> Result<Tablet, NoTablet>
-        ensures { OpenedAs (S.appended store.old) (S.appended store.new) (S.synced store.old) (S.synced store.new) who short result }
+    ) -> Result<Tablet, OpenError>
+        ensures { OpenedAs (S.disk store.old) (S.disk store.new) who short result }
     {
         let mut tablet = Tablet::new(heap, who, short)?;
         open(Owner::Borrower, store, &mut tablet)?;
