@@ -11,6 +11,7 @@ use std::error::Error;
 use std::fmt;
 
 pub mod print;
+pub mod serve;
 
 /// Why a program does not start.
 #[derive(Clone, Copy, Debug, PartialEq, Eq)]

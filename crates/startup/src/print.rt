@@ -15,8 +15,7 @@ pub fn refused(out: &mut Output, refusal: Refusal) -> Result<(), AllocError>
 {
     out.text("refused ")?;
     out.number(u64::from(refusal.number()))?;
-    out.end_line()?;
-    Ok(())
+    out.end_line()
 }
 
 /// Prints the answer to a line.
@@ -39,6 +38,5 @@ pub fn sent(out: &mut Output, message: Message, part: &[u8; 1024]) -> Result<(),
     };
     out.text("send ")?;
     out.hex(&bytes[0..size])?;
-    out.end_line()?;
-    Ok(())
+    out.end_line()
 }

@@ -1,0 +1,49 @@
+ghost use Rattle.std.specs.Prelude.{OnOk};
+
+use anyhow::Result;
+use lines::input::{Input, Line};
+use lines::output::Output;
+use std::io::Write;
+use std::process::ExitCode;
+
+/// What answers the lines of a program's input.
+pub trait Answers {
+    // what it keeps from one line to the next, if it had it before the first
+    ghost keeps: { Self → Type 0 };
+
+    /// A line comes: what it says is done, and the answer is printed. None is a line that the end of the input cut short.
+    fn answer(&mut self, line: Option<&[u8]>, out: &mut Output) -> Result<()>
+        ensures { OnOk result (keeps self.old → keeps self.new) };
+}
+
+/// Hands on each line of standard input, and writes out what was printed before the next one is read.
+pub fn serve<A: Answers>(rt: &HostRuntime, to: &mut A) -> Result<()>
+    ensures { OnOk result (A.keeps to.old → A.keeps to.new) }
+{
+    let mut stdin = rt.stdin();
+    let mut stdout = rt.stdout();
+    let mut input = Input::new(rt.alloc())?;
+    let mut out = Output::new(rt.alloc());
+    // A count stays: an input need have no end, and 2^64 lines are more than any has.
+    for _ in 0..u64::MAX {
+        match input.next_line(&mut stdin)? {
+            Line::Whole => to.answer(Some(input.line()), &mut out)?,
+            Line::Cut => to.answer(None, &mut out)?,
+            Line::End => break,
+        }
+        stdout.write_all(out.as_slice())?;
+        out.clear();
+    }
+    Ok(())
+}
+
+/// How a program ends: an error is one line on standard error, behind the program's name, and status 1.
+pub fn end(rt: &HostRuntime, name: &str, done: Result<()>) -> ExitCode {
+    match done {
+        Ok(()) => ExitCode::SUCCESS,
+        Err(why) => {
+            let _ = eprintln!(rt; "{name}: {why}");
+            ExitCode::FAILURE
+        }
+    }
+}
