@@ -2,8 +2,7 @@
 #![tactic(auto)]
 
 use anyhow::anyhow;
-use borrower::tablet::{NoTablet, Tablet};
-use journal::replay::OpenError;
+use borrower::tablet::Tablet;
 use journal::store::file::FileStore;
 use lines::decimal::number;
 use lines::input::{Input, Line};
@@ -46,16 +45,8 @@ fn serve(rt: &HostRuntime, mut session: Session<FileStore>) -> anyhow::Result<()
 
 fn start(rt: &HostRuntime, short: u64, who: Who, path: &str) -> anyhow::Result<()> {
     let mut store = FileStore::open(rt, path)?;
-    match Tablet::open(rt.alloc(), who, short, &mut store) {
-        Ok(tablet) => serve(rt, Session::new(tablet, store)),
-        Err(NoTablet::NoMemory) => Err(anyhow!("there is no memory for the parts")),
-        Err(NoTablet::NoJournal(OpenError::Malformed)) => {
-            Err(anyhow!("FILE is no journal of a borrower; it is left as it is"))
-        }
-        Err(NoTablet::NoJournal(OpenError::Store(_))) => {
-            Err(anyhow!("FILE could not be cut and synced"))
-        }
-    }
+    let tablet = Tablet::open(rt.alloc(), who, short, &mut store)?;
+    serve(rt, Session::new(tablet, store))
 }
 
 // The borrower that a word names.
