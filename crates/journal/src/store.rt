@@ -21,12 +21,10 @@ pub enum StoreError {
     Failed,
 }
 
+// Whoever started a program is told the same of both: its journal has not what it should have.
 impl fmt::Display for StoreError {
     fn fmt<W: fmt::Write>(&self, f: &mut fmt::Formatter<W>) -> fmt::Result {
-        f.write_str(match self {
-            StoreError::NoMemory => "there is no memory for the journal",
-            StoreError::Failed => "the journal could not be written and synced",
-        })
+        f.write_str("the journal could not be written and synced")
     }
 }
 

@@ -7,7 +7,7 @@ use lines::hex::decode;
 use lines::words::split;
 
 /// What a line says: a reading of the clock, and how many bytes the message has that came, if one did.
-#[derive(Clone, Copy)]
+#[derive(Clone, Copy, Debug, PartialEq, Eq)]
 pub struct Heard {
     pub clock: u64,
     pub size: Option<usize>,
@@ -19,9 +19,7 @@ pub fn parse(line: &[u8], out: &mut [u8]) -> Option<Heard>
     ensures { result ≡ heard_of (words line.now) }
 {
     let (word, more) = split(line);
-    let Some(clock) = number(word) else {
-        return None;
-    };
+    let clock = number(word)?;
     let Some(rest) = more else {
         return Some(Heard { clock, size: None });
     };
@@ -29,11 +27,9 @@ pub fn parse(line: &[u8], out: &mut [u8]) -> Option<Heard>
     let None = more else {
         return None;
     };
-    match decode(text, out) {
-        Some(size) => Some(Heard {
-            clock,
-            size: Some(size),
-        }),
-        None => None,
-    }
+    let size = decode(text, out)?;
+    Some(Heard {
+        clock,
+        size: Some(size),
+    })
 }

@@ -9,11 +9,8 @@ use std::alloc::AllocError;
 
 // Prints a recall to each borrower that is marked, by rising number.
 fn recalls(out: &mut Output, place: Place, by: [bool; 32]) -> Result<(), AllocError> {
-    for id in 0u8..32 {
-        if by[id as usize] {
-            let Some(who) = Who::new(id) else {
-                return Ok(());
-            };
+    for (id, is_marked) in (0u8..32).zip(by) {
+        if let (true, Some(who)) = (is_marked, Who::new(id)) {
             sent(out, Message::Recall { who, place }, &[0; 1024])?;
         }
     }

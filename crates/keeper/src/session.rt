@@ -1,14 +1,12 @@
-ghost use Rattle.std.specs.Prelude.{OnOk};
-ghost use Rattle.keeper.specs.Sessions.{Settled};
-
 use crate::line::parse;
 use crate::print;
-use anyhow::anyhow;
+use anyhow::Result;
 use journal::store::Store;
 use lender::keeper::Keeper;
 use lines::output::Output;
 use message::refusal::Refusal;
 use startup::print::refused;
+use startup::serve::Answers;
 
 /// A keeper with its journal, and what its clock read last.
 #[derive(Drop)]
@@ -29,46 +27,63 @@ impl<S: Store> Session<S> {
             last: 0,
         }
     }
+}
 
-    /// A line comes: what the keeper sends and answers is printed. `buffer` is for the bytes of a message: one more than the
-    /// longest message has, so that no longer one is taken for a message.
-    pub fn hear(&mut self, line: &[u8], buffer: &mut [u8], out: &mut Output) -> anyhow::Result<()>
-        ensures { OnOk result (Settled self.old.keeper (S.appended self.old.store) (S.synced self.old.store) → Settled self.new.keeper (S.appended self.new.store) (S.synced self.new.store)) }
+impl<S: Store> Session<S> {
+    ghost use Rattle.std.specs.Prelude.{OnOk};
+    ghost use Rattle.keeper.specs.Sessions.{Settled};
+
+    // The clock reads this: the keeper comes up if it is not, and time never goes back.
+    fn read_clock(&mut self, clock: u64) -> Result<(), Refusal>
+        ensures { Settled self.old.keeper (S.disk self.old.store) → Settled self.new.keeper (S.disk self.new.store) }
     {
-        let Some(heard) = parse(line, buffer) else {
-            refused(out, Refusal::Malformed)?;
-            return Ok(());
-        };
-        if heard.clock < self.last {
-            refused(out, Refusal::Malformed)?;
-            return Ok(());
+        if clock < self.last {
+            return Err(Refusal::Malformed);
         }
-        self.last = heard.clock;
+        self.last = clock;
         if !self.up {
-            self.up = self.keeper.come_up(heard.clock);
-        }
-        if !self.up {
-            refused(out, Refusal::Exhausted)?;
-            return Ok(());
-        }
-        match heard.size {
-            None => out.text("done\n")?,
-            Some(size) => {
-                let size = size.min(buffer.len());
-                self.serve(heard.clock, &buffer[0..size], out)?;
-            }
+            self.keeper.come_up(clock)?;
+            self.up = true;
         }
         Ok(())
     }
 
-    // A message comes.
-    fn serve(&mut self, clock: u64, message: &[u8], out: &mut Output) -> anyhow::Result<()>
-        ensures { OnOk result (Settled self.old.keeper (S.appended self.old.store) (S.synced self.old.store) → Settled self.new.keeper (S.appended self.new.store) (S.synced self.new.store)) }
+    // A line comes: what the keeper sends and answers is printed.
+    fn hear(&mut self, line: &[u8], out: &mut Output) -> Result<()>
+        ensures { OnOk result (Settled self.old.keeper (S.disk self.old.store) → Settled self.new.keeper (S.disk self.new.store)) }
     {
-        let Ok(reply) = self.keeper.serve(&mut self.store, clock, message) else {
-            return Err(anyhow!("the journal could not be written and synced"));
+        // One byte more than the longest message has, so that no longer one is taken for a message.
+        let mut buffer = [0; 1034];
+        let Some(heard) = parse(line, &mut buffer) else {
+            return Ok(refused(out, Refusal::Malformed)?);
         };
-        print::reply(out, &self.keeper, reply)?;
-        Ok(())
+        if let Err(refusal) = self.read_clock(heard.clock) {
+            return Ok(refused(out, refusal)?);
+        }
+        match heard.size {
+            None => Ok(out.text("done\n")?),
+            Some(size) => self.serve(heard.clock, &buffer[0..size.min(1034)], out),
+        }
+    }
+
+    // A message comes.
+    fn serve(&mut self, clock: u64, message: &[u8], out: &mut Output) -> Result<()>
+        ensures { OnOk result (Settled self.old.keeper (S.disk self.old.store) → Settled self.new.keeper (S.disk self.new.store)) }
+    {
+        let reply = self.keeper.serve(&mut self.store, clock, message)?;
+        Ok(print::reply(out, &self.keeper, reply)?)
+    }
+}
+
+impl<S: Store> Answers for Session<S> {
+    ghost use Rattle.keeper.specs.Sessions.{Settled};
+
+    ghost keeps = { λ s. Settled s.keeper (S.disk s.store) };
+
+    fn answer(&mut self, line: Option<&[u8]>, out: &mut Output) -> Result<()> {
+        match line {
+            Some(line) => self.hear(line, out),
+            None => Ok(refused(out, Refusal::Malformed)?),
+        }
     }
 }
