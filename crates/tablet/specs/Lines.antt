@@ -4,28 +4,23 @@ use Rattle.std.specs.Prelude.{ℕ, ◌+◌, ◌*◌, cond, List, [], ◌∷◌, 
 use Rattle.std.specs.Str.{bytes_eq}
 use Rattle.lines.specs.Decimals.{number_of}
 use Rattle.lines.specs.Hex.{is_hex, hex_bytes}
-use Rattle.message.specs.declared.kind.Kind.{Kind}
+use Rattle.borrower.specs.declared.outcome.Call.{Call}
+use Rattle.borrower.specs.declared.outcome.Call.TheVariants as calls
 use Rattle.message.specs.declared.kind.Kind.TheVariants as kind
 use Rattle.tablet.specs.declared.line.Act.{Act}
 use Rattle.tablet.specs.declared.line.Act.TheVariants as act
 use Rattle.tablet.specs.declared.line.Said.{Said}
 
--- what a line asks for, with parts by their numbers
+-- what a line asks for, with the part of a call by its number
 pub data Plain : Type 0 where
   reading : Plain
   message : (size : ℕ) → Plain
-  ask : (place : ℕ) → Kind → Plain
-  show : (place : ℕ) → Plain
-  write : (place : ℕ) → Plain
-  forget : (place : ℕ) → Plain
+  call : Call → (place : ℕ) → Plain
 
 abbrev pub plain : Act → Plain
 plain act.Reading = reading
 plain (act.Message n) = message n
-plain (act.Ask p k) = ask p.at k
-plain (act.Show p) = show p.at
-plain (act.Write p) = write p.at
-plain (act.Forget p) = forget p.at
+plain (act.Call c p) = call c p.at
 
 abbrev pub plain_said : Said → ℕ × Plain
 plain_said s = (s.clock, plain s.act)
@@ -40,16 +35,16 @@ abbrev pub place_of : (file part : List ℕ) → Option ℕ
 place_of f p = place_by (number_of f) (number_of p)
 
 abbrev pub two_of : (verb : List ℕ) → (place : ℕ) → Option Plain
-two_of v q = cond (bytes_eq v (codes "show")) (Some (show q)) (cond (bytes_eq v (codes "forget")) (Some (forget q)) None)
+two_of v q = cond (bytes_eq v (codes "show")) (Some (call calls.Show q)) (cond (bytes_eq v (codes "forget")) (Some (call calls.Forget q)) None)
 
 abbrev pub kind_by : (place : ℕ) → Option ℕ → Option Plain
 kind_by q None = None
-kind_by q (Some n) = cond (n == 0) (Some (ask q kind.Reading)) (cond (n == 1) (Some (ask q kind.Writing)) None)
+kind_by q (Some n) = cond (n == 0) (Some (call (calls.Ask kind.Reading) q)) (cond (n == 1) (Some (call (calls.Ask kind.Writing) q)) None)
 
 abbrev pub three_of : (verb : List ℕ) → (place : ℕ) → (word : List ℕ) → Option Plain
 three_of v q w =
     cond (bytes_eq v (codes "ask")) (kind_by q (number_of w))
-    (cond (bytes_eq v (codes "write")) (cond (is_hex w) (cond (length (hex_bytes w) == 1024) (Some (write q)) None) None) None)
+    (cond (bytes_eq v (codes "write")) (cond (is_hex w) (cond (length (hex_bytes w) == 1024) (Some (call calls.Write q)) None) None) None)
 
 abbrev pub message_of : List ℕ → Option Plain
 message_of h = cond (is_hex h) (Some (message (length (hex_bytes h)))) None

@@ -1,8 +1,9 @@
 ghost use Rattle.std.specs.Prelude.{◌≡◌, ◌∷◌};
 ghost use Rattle.std.specs.Option.{option_map};
 ghost use Rattle.lines.specs.Words.{words, rest_words};
-ghost use Rattle.tablet.specs.Lines.{plain, plain_said, place_of, at_place, message_of, two_of, three_of, act_of, said_of};
+ghost use Rattle.tablet.specs.Lines.{plain, plain_said, place_of, message_of, two_of, three_of, act_of, said_of};
 
+use borrower::outcome::Call;
 use lines::decimal::number;
 use lines::hex::decode;
 use lines::words::{is, split};
@@ -10,21 +11,18 @@ use message::kind::Kind;
 use part::place::Place;
 
 /// What a line asks for, besides its reading of the clock.
-#[derive(Clone, Copy)]
+#[derive(Clone, Copy, Debug, PartialEq, Eq)]
 pub enum Act {
     /// nothing
     Reading,
     /// a message came, of so many bytes
     Message(usize),
-    Ask(Place, Kind),
-    Show(Place),
-    /// the 1,024 bytes are in the buffer
-    Write(Place),
-    Forget(Place),
+    /// a call; the 1,024 bytes of a write are in the buffer
+    Call(Call, Place),
 }
 
 /// What a line says.
-#[derive(Clone, Copy)]
+#[derive(Clone, Copy, Debug, PartialEq, Eq)]
 pub struct Said {
     pub clock: u64,
     pub act: Act,
@@ -34,29 +32,20 @@ pub struct Said {
 fn place(file: &[u8], part: &[u8]) -> Option<Place>
     ensures { option_map (λ p. p.at) result ≡ place_of file.now part.now }
 {
-    let Some(f) = number(file) else {
-        return None;
-    };
-    let Some(p) = number(part) else {
-        return None;
-    };
-    if f >= 64 {
-        return None;
-    }
-    if p >= 256 {
-        return None;
-    }
-    Place::new(f as u8, p as u8)
+    let file = u8::try_from(number(file)?).ok()?;
+    let part = u8::try_from(number(part)?).ok()?;
+    Place::new(file, part)
 }
 
 // A call of two words behind it.
 fn two(verb: &[u8], place: Place) -> Option<Act>
     ensures { option_map plain result ≡ two_of verb.now place.at }
 {
+    // Tests stay, as `match` on a byte string this long was not proved.
     if is(verb, b"show") {
-        Some(Act::Show(place))
+        Some(Act::Call(Call::Show, place))
     } else if is(verb, b"forget") {
-        Some(Act::Forget(place))
+        Some(Act::Call(Call::Forget, place))
     } else {
         None
     }
@@ -66,19 +55,17 @@ fn two(verb: &[u8], place: Place) -> Option<Act>
 fn three(verb: &[u8], place: Place, word: &[u8], out: &mut [u8]) -> Option<Act>
     ensures { option_map plain result ≡ three_of verb.now place.at word.now }
 {
-    if is(verb, b"ask") {
-        match number(word) {
-            Some(0) => Some(Act::Ask(place, Kind::Reading)),
-            Some(1) => Some(Act::Ask(place, Kind::Writing)),
+    match verb {
+        b"ask" => match number(word)? {
+            0 => Some(Act::Call(Call::Ask(Kind::Reading), place)),
+            1 => Some(Act::Call(Call::Ask(Kind::Writing), place)),
             _ => None,
-        }
-    } else if is(verb, b"write") {
-        match decode(word, out) {
-            Some(1024) => Some(Act::Write(place)),
+        },
+        b"write" => match decode(word, out)? {
+            1024 => Some(Act::Call(Call::Write, place)),
             _ => None,
-        }
-    } else {
-        None
+        },
+        _ => None,
     }
 }
 
@@ -87,21 +74,16 @@ fn call(verb: &[u8], args: &[u8], out: &mut [u8]) -> Option<Act>
     ensures { option_map plain result ≡ act_of (verb.now ∷ words args.now) }
 {
     let (file, more) = split(args);
-    let Some(rest) = more else {
-        return None;
-    };
-    let (part, last) = split(rest);
-    let Some(place) = place(file, part) else {
-        return None;
-    };
+    let (part, last) = split(more?);
+    let place = place(file, part)?;
     let Some(rest) = last else {
         return two(verb, place);
     };
     let (word, more) = split(rest);
-    match more {
-        Some(_) => None,
-        None => three(verb, place, word, out),
-    }
+    let None = more else {
+        return None;
+    };
+    three(verb, place, word, out)
 }
 
 // What is asked for, from the words behind the reading.
@@ -112,13 +94,10 @@ fn behind(rest: Option<&[u8]>, out: &mut [u8]) -> Option<Act>
         return Some(Act::Reading);
     };
     let (verb, more) = split(rest);
-    let Some(args) = more else {
-        return match decode(verb, out) {
-            Some(size) => Some(Act::Message(size)),
-            None => None,
-        };
-    };
-    call(verb, args, out)
+    match more {
+        Some(args) => call(verb, args, out),
+        None => decode(verb, out).map(Act::Message),
+    }
 }
 
 /// What a line says, where it is in one of the forms. The bytes of a message or of a write are written to `out`; those for
@@ -127,11 +106,7 @@ pub fn parse(line: &[u8], out: &mut [u8]) -> Option<Said>
     ensures { option_map plain_said result ≡ said_of (words line.now) }
 {
     let (word, more) = split(line);
-    let Some(clock) = number(word) else {
-        return None;
-    };
-    match behind(more, out) {
-        Some(act) => Some(Said { clock, act }),
-        None => None,
-    }
+    let clock = number(word)?;
+    let act = behind(more, out)?;
+    Some(Said { clock, act })
 }

@@ -1,19 +1,15 @@
 // A tablet, by lines: calls and messages come in on standard input with readings of its clock, and what it sends and shows goes out.
 #![tactic(auto)]
 
-use anyhow::anyhow;
+use anyhow::{Context, bail};
 use borrower::tablet::Tablet;
 use journal::store::file::FileStore;
 use lines::decimal::number;
-use lines::input::{Input, Line};
-use lines::output::Output;
-use message::refusal::Refusal;
 use part::who::Who;
 use session::Session;
-use startup::print::refused;
+use startup::serve::{end, serve};
 use startup::terms;
 use std::env;
-use std::io::Write;
 use std::process::ExitCode;
 
 mod line;
@@ -25,67 +21,35 @@ const USAGE: &str =
 
 const WANTED: &str = "five arguments are wanted: RATE SHORT LONG BORROWER FILE";
 
-fn serve(rt: &HostRuntime, mut session: Session<FileStore>) -> anyhow::Result<()> {
-    let mut stdin = rt.stdin();
-    let mut stdout = rt.stdout();
-    let mut input = Input::new(rt.alloc())?;
-    let mut out = Output::new(rt.alloc());
-    let mut buffer = Vec::from_elem(rt.alloc(), 0, 1034)?;
-    for _ in 0..u64::MAX {
-        match input.next_line(&mut stdin)? {
-            Line::Whole => session.hear(input.line(), buffer.as_mut_slice(), &mut out)?,
-            Line::Cut => refused(&mut out, Refusal::Malformed)?,
-            Line::End => break,
-        }
-        stdout.write_all(out.as_slice())?;
-        out.clear();
-    }
-    Ok(())
-}
-
-fn start(rt: &HostRuntime, short: u64, who: Who, path: &str) -> anyhow::Result<()> {
-    let mut store = FileStore::open(rt, path)?;
-    let tablet = Tablet::open(rt.alloc(), who, short, &mut store)?;
-    serve(rt, Session::new(tablet, store))
-}
-
 // The borrower that a word names.
 fn borrower(word: &[u8]) -> Option<Who> {
-    match number(word) {
-        Some(id) => { if id < 32 { Who::new(id as u8) } else { None } }
-        None => None,
-    }
+    Who::new(u8::try_from(number(word)?).ok()?)
 }
 
 fn run(rt: &HostRuntime) -> anyhow::Result<()> {
     let mut args = env::args(rt)?;
     let _ = args.next();
-    let Some(rate) = args.next() else {
-        return Err(anyhow!(WANTED));
-    };
+    let rate = args.next().context(WANTED)?;
     if rate.as_str() == "--help" {
         rt.print(USAGE)?;
         return Ok(());
     }
-    let (Some(short), Some(long), Some(id)) = (args.next(), args.next(), args.next()) else {
-        return Err(anyhow!(WANTED));
+    let (Some(short), Some(long), Some(id), Some(path), None) = (
+        args.next(),
+        args.next(),
+        args.next(),
+        args.next(),
+        args.next(),
+    ) else {
+        bail!(WANTED);
     };
-    let (Some(path), None) = (args.next(), args.next()) else {
-        return Err(anyhow!(WANTED));
-    };
-    let Some(who) = borrower(id.as_bytes()) else {
-        return Err(anyhow!("BORROWER is a number from 0 to 31"));
-    };
+    let who = borrower(id.as_bytes()).context("BORROWER is a number from 0 to 31")?;
     let terms = terms(rate.as_bytes(), short.as_bytes(), long.as_bytes())?;
-    start(rt, terms.short, who, path.as_str())
+    let mut store = FileStore::open(rt, path.as_str())?;
+    let tablet = Tablet::open(rt.alloc(), who, terms.short, &mut store)?;
+    serve(rt, &mut Session::new(tablet, store))
 }
 
 fn main(rt: HostRuntime) -> ExitCode {
-    match run(&rt) {
-        Ok(()) => ExitCode::SUCCESS,
-        Err(why) => {
-            let _ = eprintln!(rt; "tablet: {why}");
-            ExitCode::FAILURE
-        }
-    }
+    end(&rt, "tablet", run(&rt))
 }

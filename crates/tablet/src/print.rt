@@ -40,11 +40,11 @@ pub fn outcome(out: &mut Output, outcome: Outcome, bytes: &[u8; 1024]) -> Result
         match message {
             Message::In(head) => told(out, "in ", head)?,
             Message::Void(head) => told(out, "void ", head)?,
-            Message::Ask { .. } => {}
-            Message::Loan { .. } => {}
-            Message::Write(_) => {}
-            Message::Recall { .. } => {}
-            Message::Back(_) => {}
+            Message::Ask(_)
+            | Message::Loan { .. }
+            | Message::Write(_)
+            | Message::Recall { .. }
+            | Message::Back(_) => {}
         }
     }
     answer(out, outcome.answer)

@@ -1,6 +1,6 @@
 use crate::line::{Act, parse};
 use crate::print;
-use anyhow::anyhow;
+use anyhow::Result;
 use borrower::outcome::Call;
 use borrower::tablet::Tablet;
 use journal::store::Store;
@@ -8,8 +8,10 @@ use lines::output::Output;
 use message::refusal::Refusal;
 use part::place::Place;
 use startup::print::refused;
+use startup::serve::Answers;
 
-const NO_JOURNAL: &str = "the journal could not be written and synced";
+// One byte more than the longest message has, so that no longer one is taken for a message.
+const ROOM: usize = 1034;
 
 /// A tablet with its journal, and what its clock read last.
 #[derive(Drop)]
@@ -28,87 +30,55 @@ impl<S: Store> Session<S> {
         }
     }
 
-    /// A line comes: what the tablet sends, shows, is told and answers is printed. `buffer` is for the bytes of a message or
-    /// of a write: one more than the longest message has, so that no longer one is taken for a message.
-    pub fn hear(&mut self, line: &[u8], buffer: &mut [u8], out: &mut Output) -> anyhow::Result<()> {
-        let Some(said) = parse(line, buffer) else {
-            refused(out, Refusal::Malformed)?;
-            return Ok(());
+    // A line comes: what the tablet sends, shows, is told and answers is printed.
+    fn hear(&mut self, line: &[u8], out: &mut Output) -> Result<()> {
+        let mut buffer = [0; ROOM];
+        let Some(said) = parse(line, &mut buffer) else {
+            return Ok(refused(out, Refusal::Malformed)?);
         };
-        let clock = said.clock;
-        if clock < self.last {
-            refused(out, Refusal::Malformed)?;
-            return Ok(());
+        if said.clock < self.last {
+            return Ok(refused(out, Refusal::Malformed)?);
         }
-        self.last = clock;
+        self.last = said.clock;
         match said.act {
-            Act::Reading => out.text("done\n")?,
-            Act::Message(size) => {
-                let size = size.min(buffer.len());
-                self.receive(&buffer[0..size], out)?;
-            }
-            Act::Ask(place, kind) => self.call(clock, place, Call::Ask(kind), out)?,
-            Act::Show(place) => self.show(clock, place, out)?,
-            Act::Write(place) => self.write(clock, place, buffer, out)?,
-            Act::Forget(place) => self.call(clock, place, Call::Forget, out)?,
+            Act::Reading => Ok(out.text("done\n")?),
+            Act::Message(size) => self.receive(&buffer[0..size.min(ROOM)], out),
+            Act::Call(call, place) => self.call(said.clock, call, place, &buffer, out),
         }
-        Ok(())
     }
 
     // A message comes.
-    fn receive(&mut self, message: &[u8], out: &mut Output) -> anyhow::Result<()> {
-        let Ok(outcome) = self.tablet.hear(&mut self.store, message) else {
-            return Err(anyhow!(NO_JOURNAL));
-        };
-        print::outcome(out, outcome, &[0; 1024])?;
-        Ok(())
+    fn receive(&mut self, message: &[u8], out: &mut Output) -> Result<()> {
+        let outcome = self.tablet.hear(&mut self.store, message)?;
+        Ok(print::outcome(out, outcome, &[0; 1024])?)
     }
 
-    // An ask or a forget.
+    // A call, with the bytes of a write at the front of the buffer. A copy's bytes leave only where they may be shown, and
+    // after the record of the call is synced.
     fn call(
         &mut self,
         clock: u64,
-        place: Place,
         call: Call,
+        place: Place,
+        buffer: &[u8; ROOM],
         out: &mut Output,
-    ) -> anyhow::Result<()> {
-        let Ok(outcome) = self.tablet.call(&mut self.store, clock, place, call) else {
-            return Err(anyhow!(NO_JOURNAL));
-        };
-        print::outcome(out, outcome, &[0; 1024])?;
-        Ok(())
-    }
-
-    // The bytes leave only where the call is done, and after its record is synced.
-    fn show(&mut self, clock: u64, place: Place, out: &mut Output) -> anyhow::Result<()> {
-        let Ok(outcome) = self.tablet.call(&mut self.store, clock, place, Call::Show) else {
-            return Err(anyhow!(NO_JOURNAL));
-        };
-        if outcome.answer.is_ok() {
+    ) -> Result<()> {
+        let outcome = self.tablet.call(&mut self.store, clock, place, call)?;
+        if call == Call::Show && outcome.answer.is_ok() {
             print::shown(out, place, self.tablet.copy(place))?;
         }
-        print::outcome(out, outcome, &[0; 1024])?;
-        Ok(())
+        Ok(print::outcome(out, outcome, buffer.first_chunk().unwrap())?)
     }
+}
 
-    // A write of the bytes at the front of the buffer.
-    fn write(
-        &mut self,
-        clock: u64,
-        place: Place,
-        buffer: &[u8],
-        out: &mut Output,
-    ) -> anyhow::Result<()> {
-        if buffer.len() < 1024 {
-            return Err(anyhow!("the buffer is too short for a part"));
+impl<S: Store> Answers for Session<S> {
+    // what a tablet keeps from one line to the next is said by its own contracts
+    ghost keeps = { λ s. Unit {0} };
+
+    fn answer(&mut self, line: Option<&[u8]>, out: &mut Output) -> Result<()> {
+        match line {
+            Some(line) => self.hear(line, out),
+            None => Ok(refused(out, Refusal::Malformed)?),
         }
-        let Ok(bytes) = <&[u8; 1024]>::try_from(&buffer[0..1024]) else {
-            return Err(anyhow!("the buffer is too short for a part"));
-        };
-        let Ok(outcome) = self.tablet.call(&mut self.store, clock, place, Call::Write) else {
-            return Err(anyhow!(NO_JOURNAL));
-        };
-        print::outcome(out, outcome, bytes)?;
-        Ok(())
     }
 }

@@ -5,15 +5,15 @@ use Rattle.tablet.specs.Lines.{act_of}
 use Rattle.tablet.proofs.line.call.Goals as goal
 
 -- a fourth word behind the call is in no form
-pub returns-in-Some-more : goal.returns-in-Some-more
-returns-in-Some-more c =
+pub returns-in_default-more : goal.returns-in_default-more
+returns-in_default-more c =
     let v = c.args.verb.now in
     let f = c.split.result.0.now in
     let p = c.split-2.result.0.now in
     let x = c.split-3.result.0.now in
-    let first = c.split.ensures.words ∙ ap (λ (o : Option (Bor (List ℕ))). f ∷ rest_words o) c.in-Some.is in
-    let second = c.split-2.ensures.words ∙ ap (λ (o : Option (Bor (List ℕ))). p ∷ rest_words o) c.in-Some-last.is in
-    let third = c.split-3.ensures.words ∙ ap (λ (o : Option (Bor (List ℕ))). x ∷ rest_words o) c.in-Some-more.is in
-    let fourth = words_split c.in-Some-more.field-0.now in
+    let first = c.split.ensures.words ∙ ap (λ (o : Option (Bor (List ℕ))). f ∷ rest_words o) c.in_ok-more.was in
+    let second = c.split-2.ensures.words ∙ ap (λ (o : Option (Bor (List ℕ))). p ∷ rest_words o) c.in-Some.is in
+    let third = c.split-3.ensures.words ∙ ap (λ (o : Option (Bor (List ℕ))). x ∷ rest_words o) c.in_default-more.is in
+    let fourth = words_split c.in_default-more.field-0.now in
     sym (ap (λ (ws : List (List ℕ)). act_of (v ∷ ws))
     (first ∙ ap (λ (ws : List (List ℕ)). f ∷ ws) (second ∙ ap (λ (ws : List (List ℕ)). p ∷ ws) (third ∙ ap (λ (ws : List (List ℕ)). x ∷ ws) fourth))))
