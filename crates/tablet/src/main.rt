@@ -33,9 +33,9 @@ fn serve(rt: &HostRuntime, mut session: Session<FileStore>) -> anyhow::Result<()
     let mut buffer = Vec::from_elem(rt.alloc(), 0, 1034)?;
     for _ in 0..u64::MAX {
         match input.next_line(&mut stdin)? {
-            Line::Whole => session.hear(input.line(), buffer.as_mut_slice(), &mut out)?,
-            Line::Cut => refused(&mut out, Refusal::Malformed)?,
-            Line::End => break,
+            Some(Line::Whole) => session.hear(input.line(), buffer.as_mut_slice(), &mut out)?,
+            Some(Line::Cut) => refused(&mut out, Refusal::Malformed)?,
+            None => break,
         }
         stdout.write_all(out.as_slice())?;
         out.clear();
