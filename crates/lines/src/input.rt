@@ -11,7 +11,8 @@ pub enum Line {
 
 /// What was read and not yet handed out, and the line that was handed out last.
 /// Bytes are read in blocks, and a line is handed out in place.
-// It stays: `BufRead::read_until` copies each line, and says of no reader like standard input that the next line goes on where the last ended.
+// It stays: `BufRead::read_until` copies each line, and does not say of a reader like standard input
+// that the next line goes on where the last ended.
 #[derive(Drop)]
 pub struct Input {
     block: Vec<u8>,
