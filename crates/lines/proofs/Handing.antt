@@ -7,7 +7,7 @@ use Rattle.lines.specs.Words.{before, behind}
 use Rattle.lines.specs.Inputs.{Handed}
 use Rattle.lines.specs.declared.input.Line.{Line}
 use Rattle.lines.specs.declared.input.Line.TheVariants.{Whole}
-use Rattle.lines.proofs.Splits.{before_is, behind_some, behind_none}
+use Rattle.lines.proofs.Splits.{before_is, behind_some}
 
 module _ (held : List ℕ) (next size : ℕ) (is : size ≡ length (before 10 (drop next held))) where
   pub found : size < length (drop next held) → true ≡ is_some (behind 10 (drop next held))
@@ -23,12 +23,6 @@ module _ (held : List ℕ) (next size : ℕ) (is : size ≡ length (before 10 (d
       let e : next + size + 1 ≡ next + (length (before 10 (drop next held)) + 1) = omega arith in
       ap (λ (k : ℕ). drop k held) e ∙ sym (drop-drop (length (before 10 (drop next held)) + 1) next held)
       ∙ ap (λ (o : Option (List ℕ)). unwrap_or o (drop next held)) (behind_some 10 (drop next held) (omega arith))
-
-  pub not_found : length (drop next held) ≤ size → false ≡ is_some (behind 10 (drop next held))
-  not_found h = ap (λ (o : Option (List ℕ)). is_some o) (behind_none 10 (drop next held) (omega arith))
-
-  pub same_rest : length (drop next held) ≤ size → drop next held ≡ unwrap_or (behind 10 (drop next held)) (drop next held)
-  same_rest h = ap (λ (o : Option (List ℕ)). unwrap_or o (drop next held)) (behind_none 10 (drop next held) (omega arith))
 
 -- all that is left
 pub rest_line : (held : List ℕ) (next n : ℕ) → n ≡ length held → take (n - next) (drop next held) ≡ drop next held
@@ -82,13 +76,13 @@ reading_over all mid more next none m z g =
 
 -- a line ended by a newline is handed out
 pub handed_whole : (was all line left : List ℕ) (seen : ℕ) → Reading was all seen → true ≡ is_some (behind 10 all)
-    → line ≡ before 10 all → left ≡ unwrap_or (behind 10 all) all → (got : List ℕ) × Handed Whole (was ++ got) line left
+    → line ≡ before 10 all → left ≡ unwrap_or (behind 10 all) all → (got : List ℕ) × Handed (Some Whole) (was ++ got) line left
 handed_whole was all line left seen r some l e = (
   r.got,
-  subst (λ (q : List ℕ). Handed Whole q line left) r.grown (l, some_of (behind 10 all) all left some e),
+  subst (λ (q : List ℕ). Handed (Some Whole) q line left) r.grown (l, some_of (behind 10 all) all left some e),
 )
 
 -- at the end of the input nothing more came
-pub handed_last : (l : Line) (was all line left : List ℕ) (seen : ℕ) → Reading was all seen → Handed l all line left
+pub handed_last : (l : Option Line) (was all line left : List ℕ) (seen : ℕ) → Reading was all seen → Handed l all line left
     → (got : List ℕ) × Handed l (was ++ got) line left
 handed_last l was all line left seen r h = (r.got, subst (λ (q : List ℕ). Handed l q line left) r.grown h)

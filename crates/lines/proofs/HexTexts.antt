@@ -1,6 +1,6 @@
 -- What the digits of a hexadecimal text stand for.
 -- Assumes nothing.
-use Rattle.std.proofs.Common.{◌≡◌, ℕ, zero, suc, ◌+◌, ◌-◌, ◌*◌, ◌/◌, ◌%◌, ◌<◌, ◌≤◌, min, Bool, true, ◌&&◌, ltb, leb, List, [], ◌∷◌, ◌++◌, length, get_or, take, drop, set, is_some, Some, Option, unwrap_or, sym, refl, ap, ◌∙◌, inl, inr, arith}
+use Rattle.std.proofs.Common.{◌≡◌, ℕ, zero, suc, ◌+◌, ◌-◌, ◌*◌, ◌/◌, ◌%◌, ◌<◌, ◌≤◌, min, true, ◌&&◌, ltb, leb, List, [], ◌∷◌, ◌++◌, length, get_or, take, drop, set, is_some, Some, Option, unwrap_or, sym, refl, ap, ◌∙◌, inl, inr, arith}
 use Rattle.std.proofs.lemmas.List.{at_drop_more, drop_more, take_more, set_at, take_all, drop_all, length-take-le, append_assoc}
 use Rattle.std.proofs.lemmas.Bool.{cond_both, cond-true, cond-false, cases_lt, leb-true, le-leb, lt-leb, ltb-true, ltb-false, lt-ltb, eq-eqb, and_parts, and_from, and_right}
 use Rattle.lines.specs.Hex.{hex_digit, hex_value, all_hex, is_hex, hex_bytes, fronted, hex_letter, hex_text}
@@ -16,12 +16,6 @@ value_small b =
     cond_both (leb 48 b && leb b 57) _ _ P (λ e. omega (arith, between_true 48 57 b e))
     (λ _. cond_both (leb 97 b && leb b 102) _ _ P (λ e. omega (arith, between_true 97 102 b e))
     (λ _. cond_both (leb 65 b && leb b 70) _ _ P (λ e. omega (arith, between_true 65 70 b e)) (λ _. omega arith)))
-
--- one byte on
-pub all_hex_step : (o : Option ℕ) (t : Bool) (text : List ℕ) (i : ℕ) → i < length text → o ≡ hex_digit (get_or text i 0) → is_some o ≡ t
-    → (t && all_hex (drop (i + 1) text)) ≡ all_hex (drop i text)
-all_hex_step o t text i h e s =
-    ap (λ (u : Bool). u && all_hex (drop (i + 1) text)) (sym s ∙ ap (λ (p : Option ℕ). is_some p) e) ∙ sym (at_drop_more all_hex text i 0 h)
 
 -- a byte for two digits
 pub length_bytes : (text : List ℕ) → length (hex_bytes text) ≡ length text / 2

@@ -1,4 +1,5 @@
--- Going on where there is a value.
+-- Going on where there is a value. It stays beside std's `option_and_then`, which takes the function first:
+-- a row of steps reads better with the function last.
 -- Assumes nothing.
 use Rattle.std.specs.Prelude.{Some, None, Option}
 

@@ -1,6 +1,7 @@
 -- Bytes as hexadecimal text: which texts are bytes, which bytes they are, and how bytes are written.
 -- Assumes nothing.
-use Rattle.std.specs.Prelude.{ℕ, ◌+◌, ◌-◌, ◌*◌, ◌/◌, ◌%◌, Bool, true, cond, ◌&&◌, List, [], ◌∷◌, ◌++◌, length, take, drop, is_some, Some, None, Option, ◌==◌, nat_le, nat_lt}
+use Rattle.std.specs.Prelude.{ℕ, ◌+◌, ◌-◌, ◌*◌, ◌/◌, ◌%◌, Bool, cond, ◌&&◌, List, [], ◌∷◌, ◌++◌, length, take, drop, is_some, Some, None, Option, ◌==◌, nat_le, nat_lt}
+use Rattle.std.specs.List.{list_all}
 use Rattle.std.specs.Option.{unwrap_or}
 
 -- the value of a digit in either case
@@ -15,8 +16,7 @@ unfoldable pub hex_value : ℕ → ℕ
 hex_value b = unwrap_or (hex_digit b) 0
 
 abbrev pub all_hex : List ℕ → Bool
-all_hex [] = true
-all_hex (b ∷ bs) = is_some (hex_digit b) && all_hex bs
+all_hex text = list_all (λ b. is_some (hex_digit b)) text
 
 -- the text stands for one byte or more: digits only, two for each byte
 unfoldable pub is_hex : List ℕ → Bool

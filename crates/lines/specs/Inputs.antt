@@ -1,10 +1,10 @@
 -- What was read and not yet handed out, and how it is handed out in lines.
 -- Assumes nothing.
-use Rattle.std.specs.Prelude.{◌≡◌, ℕ, ◌-◌, ◌<◌, List, [], length, take, drop, Some, None, vec_items}
+use Rattle.std.specs.Prelude.{◌≡◌, ℕ, ◌-◌, ◌<◌, List, [], length, take, drop, Some, None, Option, vec_items}
 use Rattle.lines.specs.Words.{before, behind}
 use Rattle.lines.specs.declared.input.Input.{Input}
 use Rattle.lines.specs.declared.input.Line.{Line}
-use Rattle.lines.specs.declared.input.Line.TheVariants.{Whole, Cut, End}
+use Rattle.lines.specs.declared.input.Line.TheVariants.{Whole, Cut}
 
 -- the bytes that were read and not yet handed out
 abbrev pub rest : Input → List ℕ
@@ -16,7 +16,7 @@ line_of i = take (i.last - i.first) (drop i.first (vec_items i.held))
 
 -- how a line is handed out of the bytes that were there and those that were read to get it:
 -- up to the next newline, or all where the input is over and some byte is left
-abbrev pub Handed : Line → (all line left : List ℕ) → Type 0
-Handed Whole all line left = (line ≡ before 10 all) × (Some left ≡ behind 10 all)
-Handed Cut all line left = (line ≡ all) × (None ≡ behind 10 all) × (left ≡ []) × (0 < length all)
-Handed End all line left = (all ≡ []) × (left ≡ [])
+abbrev pub Handed : Option Line → (all line left : List ℕ) → Type 0
+Handed (Some Whole) all line left = (line ≡ before 10 all) × (Some left ≡ behind 10 all)
+Handed (Some Cut) all line left = (line ≡ all) × (None ≡ behind 10 all) × (left ≡ []) × (0 < length all)
+Handed None all line left = (all ≡ []) × (left ≡ [])

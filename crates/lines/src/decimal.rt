@@ -5,13 +5,10 @@ ghost use Rattle.lines.specs.Decimals.{number_of, appended};
 fn append(number: u64, digit: u8) -> Option<u64>
     ensures { result ≡ appended number digit }
 {
-    if digit < 48 || digit > 57 {
-        return None;
+    match digit {
+        b'0'..=b'9' => number.checked_mul(10)?.checked_add(u64::from(digit - b'0')),
+        _ => None,
     }
-    let Some(tens) = number.checked_mul(10) else {
-        return None;
-    };
-    tens.checked_add(u64::from(digit - 48))
 }
 
 /// The number that a text of decimal digits stands for; none where the text is empty, has any other byte,
@@ -24,10 +21,7 @@ pub fn number(word: &[u8]) -> Option<u64>
     }
     let mut sum = 0;
     for b in word {
-        let Some(more) = append(sum, *b) else {
-            return None;
-        };
-        sum = more;
+        sum = append(sum, *b)?;
     }
     Some(sum)
 }

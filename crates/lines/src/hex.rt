@@ -9,8 +9,8 @@ pub fn digit(b: u8) -> Option<u8>
 {
     match b {
         b'0'..=b'9' => Some(b - b'0'),
-        b'a'..=b'f' => Some(b - 87),
-        b'A'..=b'F' => Some(b - 55),
+        b'a'..=b'f' => Some(b - b'a' + 10),
+        b'A'..=b'F' => Some(b - b'A' + 10),
         _ => None,
     }
 }
@@ -27,19 +27,14 @@ fn value(b: u8) -> u8
 fn all_hex(text: &[u8]) -> bool
     ensures { result ≡ all_hex text.now }
 {
-    for b in text {
-        if digit(*b).is_none() {
-            return false;
-        }
-    }
-    true
+    text.iter().all(|b| digit(*b).is_some())
 }
 
 /// The text stands for one byte or more: digits only, two for each byte.
 pub fn is_hex(text: &[u8]) -> bool
     ensures { result ≡ is_hex text.now }
 {
-    text.len() > 0 && text.len() % 2 == 0 && all_hex(text)
+    !text.is_empty() && text.len() % 2 == 0 && all_hex(text)
 }
 
 // Writes the bytes that the text stands for at the front, as many as there is room for.
@@ -47,6 +42,7 @@ fn put(text: &[u8], out: &mut [u8])
     ensures { out.new ≡ fronted (hex_bytes text.now) out.old }
 {
     let count = out.len().min(text.len() / 2);
+    // The index stays: of what is written through `out.iter_mut().zip(..)` a proof knows nothing afterwards.
     for i in 0..count {
         out[i] = value(text[2 * i]) * 16 + value(text[2 * i + 1]);
     }
@@ -70,17 +66,18 @@ fn letter(value: u8) -> u8
     requires { value < 16 }
     ensures { result ≡ hex_letter value }
 {
-    if value < 10 { value + b'0' } else { value + 87 }
+    if value < 10 {
+        value + b'0'
+    } else {
+        value - 10 + b'a'
+    }
 }
 
 /// Appends the bytes as hexadecimal text, two digits each, in lower case; nothing where there is no memory for all.
 pub fn push_hex(out: &mut Vec<u8>, bytes: &[u8]) -> Result<(), AllocError>
     ensures { out.new.items ≡ (if is_ok result then out.old.items ++ hex_text bytes.now else out.old.items) }
 {
-    let Some(count) = bytes.len().checked_mul(2) else {
-        return Err(AllocError);
-    };
-    out.reserve(count)?;
+    out.reserve(bytes.len().checked_mul(2).ok_or(AllocError)?)?;
     for b in bytes {
         out.push_reserved(letter(*b / 16));
         out.push_reserved(letter(*b % 16));

@@ -3,6 +3,7 @@ ghost use Rattle.lines.specs.Hex.{hex_text};
 ghost use Rattle.lines.specs.Outputs.{printed, appended_to, trimmed, trimmed_text};
 
 use crate::hex::push_hex;
+use itoa::Buffer;
 use std::alloc::{AllocError, Global};
 
 /// What is to be printed, gathered so that it goes out at once.
@@ -11,32 +12,15 @@ pub struct Output {
     bytes: Vec<u8>,
 }
 
-// Appends a number in decimal, without zeros in front.
-fn push_number(out: &mut Vec<u8>, number: u64) -> Result<(), AllocError>
-    ensures { out.new.items ≡ appended_to out.old.items (decimal number) result }
-{
-    let mut digits = [0u8; 20];
-    let mut start = 20;
-    let mut rest = number;
-    while rest >= 10 {
-        start -= 1;
-        digits[start] = 48 + (rest % 10) as u8;
-        rest /= 10;
-    }
-    start -= 1;
-    digits[start] = 48 + rest as u8;
-    out.extend_from_slice(&digits[start..])
-}
-
 // The bytes without the zeros at their end.
 fn trim(bytes: &[u8]) -> &[u8]
     ensures { result.now ≡ trimmed bytes.now }
 {
-    let mut end = bytes.len();
-    while end > 0 && bytes[end - 1] == 0 {
-        end -= 1;
+    let mut rest = bytes;
+    while let [front @ .., 0] = rest {
+        rest = front;
     }
-    &bytes[0..end]
+    rest
 }
 
 impl Output {
@@ -67,7 +51,8 @@ impl Output {
     pub fn number(&mut self, number: u64) -> Result<(), AllocError>
         ensures { printed self.new ≡ appended_to (printed self.old) (decimal number) result }
     {
-        push_number(&mut self.bytes, number)
+        self.bytes
+            .extend_from_slice(Buffer::new().format(number).as_bytes())
     }
 
     /// Appends bytes in hexadecimal; nothing where there is no memory for all.

@@ -72,12 +72,12 @@ fn printing(rt: HostRuntime) -> Result<(), Fail> {
 fn reading(rt: HostRuntime) -> Result<(), Fail> {
     let mut text: &[u8] = b"ab\n\ncd";
     let mut input = Input::new(rt.alloc())?;
-    assert!(rt; matches!(input.next_line(&mut text)?, Line::Whole));
+    assert_eq!(rt; input.next_line(&mut text)?, Some(Line::Whole));
     assert!(rt; input.line() == b"ab".as_slice());
-    assert!(rt; matches!(input.next_line(&mut text)?, Line::Whole));
+    assert_eq!(rt; input.next_line(&mut text)?, Some(Line::Whole));
     assert!(rt; input.line().is_empty());
-    assert!(rt; matches!(input.next_line(&mut text)?, Line::Cut));
+    assert_eq!(rt; input.next_line(&mut text)?, Some(Line::Cut));
     assert!(rt; input.line() == b"cd".as_slice());
-    assert!(rt; matches!(input.next_line(&mut text)?, Line::End));
+    assert_eq!(rt; input.next_line(&mut text)?, None);
     Ok(())
 }

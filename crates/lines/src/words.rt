@@ -1,21 +1,15 @@
-ghost use Rattle.std.specs.Prelude.{◌≡◌, ◌≤◌, ◌∷◌, length};
+ghost use Rattle.std.specs.Prelude.{◌≡◌, ◌∷◌, ◌==◌, position};
 ghost use Rattle.std.specs.Option.{option_map};
 ghost use Rattle.std.specs.Str.{bytes_eq};
 ghost use Rattle.lines.specs.Words.{before, behind, words, rest_words};
 
 const SPACE: u8 = b' ';
 
-/// Where the first mark stands in a text, or the text's length where there is none.
-pub fn find(text: &[u8], mark: u8) -> usize
-    ensures at { result ≡ length (before mark text.now) }
-    ensures within { result ≤ length text.now }
+/// Where the first mark stands in a text, where there is one.
+pub fn find(text: &[u8], mark: u8) -> Option<usize>
+    ensures { result ≡ position (λ b. b == mark) text.now }
 {
-    for i in 0..text.len() {
-        if text[i] == mark {
-            return i;
-        }
-    }
-    text.len()
+    text.iter().position(|b| *b == mark)
 }
 
 /// The first word of a text, and what stands behind the space that ends it, where there is a space.
@@ -24,11 +18,9 @@ pub fn split(text: &[u8]) -> (&[u8], Option<&[u8]>)
     ensures more { option_map (λ x. x.now) result.1 ≡ behind 32 text.now }
     ensures words { words text.now ≡ result.0.now ∷ rest_words result.1 }
 {
-    let end = find(text, SPACE);
-    if end < text.len() {
-        (&text[0..end], Some(&text[end + 1..]))
-    } else {
-        (text, None)
+    match find(text, SPACE) {
+        Some(end) => (&text[..end], Some(&text[end + 1..])),
+        None => (text, None),
     }
 }
 

@@ -26,9 +26,9 @@ fn play(rt: &HostRuntime, mut stage: Stage) -> anyhow::Result<()> {
     let mut out = Output::new(rt.alloc());
     for _ in 0..u64::MAX {
         match input.next_line(&mut stdin)? {
-            Line::Whole => stage.play(parse(input.line()), &mut out)?,
-            Line::Cut => stage.play(None, &mut out)?,
-            Line::End => break,
+            Some(Line::Whole) => stage.play(parse(input.line()), &mut out)?,
+            Some(Line::Cut) => stage.play(None, &mut out)?,
+            None => break,
         }
         stdout.write_all(out.as_slice())?;
         out.clear();

@@ -4,11 +4,10 @@ use crate::rehearsal::{Rehearsal, Said};
 use borrower::outcome::{Call, Outcome};
 use clock::terms::Terms;
 use lines::output::Output;
-use message::kind::Kind;
 use message::refusal::Refusal;
 use part::place::Place;
 use part::who::Who;
-use script::step::{Act, Node as Name, Step};
+use script::step::{Act, Borrower, Node as Name, Step};
 use startup::print::refused;
 use std::alloc::{AllocError, Global};
 
@@ -112,8 +111,8 @@ impl Stage {
     fn index(&self, name: Name, up: bool) -> Option<usize> {
         match name {
             Name::Keeper => None,
-            Name::Borrower(id) => {
-                let i = id as usize;
+            Name::Borrower(who) => {
+                let i = usize::from(u8::from(who));
                 if i < self.nodes.len() && self.nodes[i].up == up {
                     Some(i)
                 } else {
@@ -126,20 +125,20 @@ impl Stage {
     // A call of a borrower.
     fn call(
         &mut self,
-        who: u8,
+        who: Borrower,
         place: Place,
         act: Act,
         torn: Option<u64>,
         out: &mut Output,
     ) -> anyhow::Result<()> {
-        let i = who as usize;
+        let i = usize::from(u8::from(who));
         if i >= self.nodes.len() {
             return Ok(refused(out, Refusal::Malformed)?);
         }
         if !self.nodes[i].up {
             return Ok(print::word(out, "down")?);
         }
-        let clock = self.time.reading(who);
+        let clock = self.time.reading(u8::from(who));
         let (call, bytes) = called(act);
         if let Some(left) = torn {
             self.nodes[i].call_torn(clock, place, call, left)?;
@@ -179,8 +178,7 @@ impl Stage {
 // The call that a line asks for, and the bytes of a write.
 fn called(act: Act) -> (Call, [u8; 1024]) {
     match act {
-        Act::Ask(0) => (Call::Ask(Kind::Reading), ZEROS),
-        Act::Ask(_) => (Call::Ask(Kind::Writing), ZEROS),
+        Act::Ask(kind) => (Call::Ask(kind), ZEROS),
         Act::Show => (Call::Show, ZEROS),
         Act::Write(bytes) => (Call::Write, bytes),
         Act::Forget => (Call::Forget, ZEROS),

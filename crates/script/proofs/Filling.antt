@@ -1,25 +1,18 @@
 -- The places that numbers are read into, one after another.
 -- Assumes nothing.
-use Rattle.std.proofs.Common.{◌≡◌, ℕ, ◌+◌, ◌<◌, ◌≤◌, Bool, true, false, cond, not, List, [], ◌∷◌, ◌++◌, length, take, drop, set, is_some, Some, None, Option, sym, refl, ap, ◌∙◌, arith, Bor}
+use Rattle.std.proofs.Common.{◌≡◌, ℕ, ◌+◌, ◌<◌, Bool, true, false, not, List, [], ◌∷◌, ◌++◌, length, take, drop, set, is_some, Some, None, Option, sym, refl, ap, ◌∙◌, arith, Bor}
 use Rattle.std.specs.Option.{option_map}
-use Rattle.std.proofs.lemmas.List.{drop_more, drop_all, drop-set-lt, take_more_set, take-append-drop, append_assoc}
+use Rattle.std.proofs.lemmas.List.{drop_more, drop-set-lt, take_more_set, append_assoc}
 use Rattle.std.proofs.lemmas.Bool.{true≢false, false≢true}
 use Rattle.lines.specs.Chains.{and_then}
 use Rattle.lines.specs.Decimals.{number_of}
-use Rattle.lines.specs.Words.{words, rest_words}
+use Rattle.lines.specs.Words.{rest_words}
 use Rattle.script.specs.Scripts.{fill_of, ended}
 use Rattle.lines.proofs.Splits.{words_split}
 
 -- the first i places have their numbers, and the others take those of the words left
 abbrev pub filled : List ℕ → ℕ → List (List ℕ) → Option (List ℕ)
 filled out i ws = option_map (λ (q : List ℕ). take i out ++ q) (fill_of ws (drop i out))
-
-mapped_id : (o : Option (List ℕ)) → option_map (λ (q : List ℕ). [] ++ q) o ≡ o
-mapped_id None = refl
-mapped_id (Some xs) = refl
-
-pub filled_start : (out : List ℕ) (ws : List (List ℕ)) → filled out 0 ws ≡ fill_of ws out
-filled_start out ws = mapped_id (fill_of ws out)
 
 mapped_more : (o : Option (List ℕ)) (front : List ℕ) (n : ℕ)
     → option_map (λ (q : List ℕ). (front ++ n ∷ []) ++ q) o ≡ option_map (λ (q : List ℕ). front ++ q) (option_map (λ (q : List ℕ). n ∷ q) o)
@@ -40,27 +33,6 @@ filled_step out i n w left ws h e f =
     ∙ mapped_more (fill_of ws (drop (i + 1) out)) (take i out) n
     ∙ ap (λ (o : Option ℕ). option_map (λ (q : List ℕ). take i out ++ q) (and_then o (λ m. option_map (λ (q : List ℕ). m ∷ q) (fill_of ws (drop (i + 1) out))))) f
     ∙ sym (filled_at out i w ws h) ∙ ap (filled out i) (sym e)
-
--- a word that is no number
-pub filled_bad : (out : List ℕ) (i : ℕ) (w : List ℕ) (left ws : List (List ℕ)) → i < length out → left ≡ w ∷ ws → None ≡ number_of w
-    → None ≡ filled out i left
-filled_bad out i w left ws h e f =
-    ap (λ (o : Option ℕ). option_map (λ (q : List ℕ). take i out ++ q) (and_then o (λ m. option_map (λ (q : List ℕ). m ∷ q) (fill_of ws (drop (i + 1) out))))) f
-    ∙ sym (filled_at out i w ws h) ∙ ap (filled out i) (sym e)
-
--- no word is left
-pub filled_done : (out : List ℕ) (i : ℕ) (left : List (List ℕ)) → left ≡ [] → Some out ≡ filled out i left
-filled_done out i left e = ap (λ (q : List ℕ). Some q) (sym (take-append-drop i out)) ∙ ap (filled out i) (sym e)
-
--- no place is left: that is well where no word is left
-pub filled_end : (out : List ℕ) (i : ℕ) (rest : Option (Bor (List ℕ))) (r : Bool) → length out ≤ i → is_some rest ≡ not r
-    → cond r (Some out) None ≡ filled out i (rest_words rest)
-filled_end out i None true h e = filled_done out i [] refl
-filled_end out i None false h e = absurd (false≢true e)
-filled_end out i (Some text) true h e = absurd (true≢false e)
-filled_end out i (Some text) false h e =
-    sym (ap (λ (os : List ℕ). option_map (λ (q : List ℕ). take i out ++ q) (fill_of (words text.now) os)) (drop_all i out h)
-    ∙ ap (λ (ws : List (List ℕ)). option_map (λ (q : List ℕ). take i out ++ q) (fill_of ws [])) (words_split text.now))
 
 -- a text has a word, so no word is left only where no text is
 pub over_is : (rest : Option (Bor (List ℕ))) (r : Bool) → is_some rest ≡ not r → r ≡ ended (rest_words rest)

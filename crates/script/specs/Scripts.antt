@@ -1,6 +1,7 @@
 -- What the lines of a rehearsal's script say. A step names a part by its number in all files.
 -- Assumes nothing.
-use Rattle.std.specs.Prelude.{ℕ, ◌+◌, ◌*◌, ◌<◌, Bool, true, false, cond, ◌&&◌, List, [], ◌∷◌, length, replicate, IfSome, Some, None, codes, Option, ◌==◌, nat_le, nat_lt}
+use Rattle.std.specs.Prelude.{◌≡◌, ℕ, ◌+◌, ◌*◌, Bool, true, false, cond, ◌&&◌, List, [], ◌∷◌, length, replicate, Some, None, codes, Option, ◌==◌, nat_le, nat_lt}
+use Rattle.std.specs.Borrow.{Bor}
 use Rattle.std.specs.Option.{option_map}
 use Rattle.std.specs.Str.{bytes_eq}
 use Rattle.part.specs.declared.place.Place.{Place}
@@ -8,6 +9,10 @@ use Rattle.lines.specs.Chains.{and_then}
 use Rattle.lines.specs.Decimals.{number_of}
 use Rattle.lines.specs.Hex.{is_hex, hex_bytes, fronted}
 use Rattle.lines.specs.Words.{words}
+use Rattle.message.specs.declared.kind.Kind.{Kind}
+use Rattle.message.specs.declared.kind.Kind.TheVariants.{Reading, Writing}
+use Rattle.script.specs.declared.step.Borrower.{Borrower as Who}
+use Rattle.script.specs.declared.step.Borrower.TheVariants.{Zero, One, Two, Three}
 use Rattle.script.specs.declared.step.Node.{Node}
 use Rattle.script.specs.declared.step.Node.TheVariants.{Keeper, Borrower}
 use Rattle.script.specs.declared.step.Act.{Act}
@@ -46,9 +51,26 @@ fill_of [] out = Some out
 fill_of (w ∷ ws) [] = None
 fill_of (w ∷ ws) (o ∷ out) = and_then (number_of w) (λ n. option_map (λ more. n ∷ more) (fill_of ws out))
 
+-- the numbers of the borrowers
+abbrev pub borrower_number : Who → ℕ
+borrower_number Zero = 0
+borrower_number One = 1
+borrower_number Two = 2
+borrower_number Three = 3
+
+abbrev pub borrower_at : ℕ → Option Who
+borrower_at n = cond (n == 0) (Some Zero) (cond (n == 1) (Some One) (cond (n == 2) (Some Two) (cond (n == 3) (Some Three) None)))
+
+abbrev pub borrower_of : List ℕ → Option Who
+borrower_of w = and_then (number_of w) borrower_at
+
+-- the kind of an ask: 0 reading, 1 writing
+abbrev pub kind_of : List ℕ → Option Kind
+kind_of w = and_then (number_of w) (λ n. cond (n == 0) (Some Reading) (cond (n == 1) (Some Writing) None))
+
 -- `keeper` or the number of a borrower
 abbrev pub node_of : List ℕ → Option Node
-node_of w = cond (bytes_eq w (codes "keeper")) (Some Keeper) (option_map (λ n. Borrower n) (small_of w 4))
+node_of w = cond (bytes_eq w (codes "keeper")) (Some Keeper) (option_map (λ b. Borrower b) (borrower_of w))
 
 -- the part of a file, by the number of each
 abbrev pub place_of : (file part : List ℕ) → Option ℕ
@@ -62,27 +84,22 @@ zeros = replicate 1024 0
 abbrev pub bytes_of : List ℕ → Option (List ℕ)
 bytes_of w = cond (is_hex w && nat_le (length (hex_bytes w)) 1024) (Some (fronted (hex_bytes w) zeros)) None
 
--- a key and the number behind it may come next, and then the words behind these
-abbrev pub number_behind : List (List ℕ) → Option (Option ℕ × List (List ℕ))
-number_behind [] = None
-number_behind (w ∷ ws) = option_map (λ n. (Some n, ws)) (number_of w)
+-- a reader gives what this definition says of each word
+abbrev pub Reads : {T : Type 0} → (Bor (List ℕ) → Option T → Type 0) → (List ℕ → Option T) → Type 0
+Reads post of = (w : Bor (List ℕ)) (r : _) → post w r → r ≡ of w.now
 
-abbrev pub keyed_number : List ℕ → List (List ℕ) → Option (Option ℕ × List (List ℕ))
-keyed_number key [] = Some (None, [])
-keyed_number key (w ∷ ws) = cond (bytes_eq w key) (number_behind ws) (Some (None, w ∷ ws))
+-- a key and a word of this meaning behind it may come next, and then the words behind these
+abbrev pub read_behind : {T : Type 0} → (List ℕ → Option T) → List (List ℕ) → Option (Option T × List (List ℕ))
+read_behind of [] = None
+read_behind of (w ∷ ws) = option_map (λ x. (Some x, ws)) (of w)
 
--- `to` and who it is may come next, and then the words behind these
-abbrev pub node_behind : List (List ℕ) → Option (Option Node × List (List ℕ))
-node_behind [] = None
-node_behind (w ∷ ws) = option_map (λ n. (Some n, ws)) (node_of w)
-
-abbrev pub keyed_node : List (List ℕ) → Option (Option Node × List (List ℕ))
-keyed_node [] = Some (None, [])
-keyed_node (w ∷ ws) = cond (bytes_eq w (codes "to")) (node_behind ws) (Some (None, w ∷ ws))
+abbrev pub keyed : {T : Type 0} → (List ℕ → Option T) → (key : List ℕ) → List (List ℕ) → Option (Option T × List (List ℕ))
+keyed of key [] = Some (None, [])
+keyed of key (w ∷ ws) = cond (bytes_eq w key) (read_behind of ws) (Some (None, w ∷ ws))
 
 -- `stop` and a number may come last
 abbrev pub torn_of : List (List ℕ) → Option (Option ℕ)
-torn_of ws = and_then (keyed_number (codes "stop") ws) (λ k. cond (ended k.1) (Some k.0) None)
+torn_of ws = and_then (keyed number_of (codes "stop") ws) (λ k. cond (ended k.1) (Some k.0) None)
 
 -- the keeper's clock and those of borrowers 0 to 3, at 0 where not given
 abbrev pub set_of : List (List ℕ) → Option (Step ℕ)
@@ -113,8 +130,8 @@ abbrev pub deliver_of : List (List ℕ) → Option (Step ℕ)
 deliver_of [] = None
 deliver_of (w ∷ ws) =
     and_then (number_of w) (λ message.
-    and_then (keyed_number (codes "cut") ws) (λ cut.
-    and_then (keyed_node cut.1) (λ to.
+    and_then (keyed number_of (codes "cut") ws) (λ cut.
+    and_then (keyed node_of (codes "to") cut.1) (λ to.
     option_map (λ torn. Deliver message cut.0 to.0 torn) (torn_of to.1))))
 
 -- the next two words, and those behind them
@@ -126,7 +143,7 @@ two_of (v ∷ w ∷ ws) = Some (v, w, ws)
 -- the kind of an ask and the bytes of a write, and the words behind them
 abbrev pub ask_of : List (List ℕ) → Option (Act × List (List ℕ))
 ask_of [] = None
-ask_of (w ∷ ws) = option_map (λ kind. (Ask kind, ws)) (small_of w 2)
+ask_of (w ∷ ws) = option_map (λ kind. (Ask kind, ws)) (kind_of w)
 
 abbrev pub write_of : List (List ℕ) → Option (Act × List (List ℕ))
 write_of [] = None
@@ -144,7 +161,7 @@ act_of w ws =
 abbrev pub call_of : List ℕ → List (List ℕ) → Option (Step ℕ)
 call_of b [] = None
 call_of b (w ∷ ws) =
-    and_then (small_of b 4) (λ who.
+    and_then (borrower_of b) (λ who.
     and_then (two_of ws) (λ two.
     and_then (place_of two.0 two.1) (λ place.
     and_then (act_of w two.2) (λ act.
@@ -164,26 +181,3 @@ form_of (w ∷ ws) =
 -- what a line says, where it is in one of the forms
 abbrev pub step_of : List ℕ → Option (Step ℕ)
 step_of line = cond (is_blank line) (Some Blank) (form_of (words line))
-
--- a borrower is one of four
-abbrev pub Known : Node → Type 0
-Known Keeper = Unit {0}
-Known (Borrower id) = id < 4
-
--- an ask is of kind 0 or 1
-abbrev pub Kinded : Act → Type 0
-Kinded (Ask kind) = kind < 2
-Kinded Show = Unit {0}
-Kinded (Write bytes) = Unit {0}
-Kinded Forget = Unit {0}
-
--- a step names only borrowers that there are, and kinds of asks that there are
-abbrev pub Bounded : {P : Type 0} → Step P → Type 0
-Bounded Blank = Unit {0}
-Bounded (Set keeper borrowers) = Unit {0}
-Bounded Anew = Unit {0}
-Bounded (Tick time by) = Unit {0}
-Bounded (Up node) = Known node
-Bounded (Stop node) = Known node
-Bounded (Call who place act torn) = (who < 4) × Kinded act
-Bounded (Deliver message cut to torn) = IfSome to Known

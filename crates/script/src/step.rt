@@ -1,27 +1,45 @@
-ghost use Rattle.std.specs.Prelude.{◌≡◌, IfSome};
+ghost use Rattle.std.specs.Prelude.{◌≡◌};
 ghost use Rattle.std.specs.Option.{option_map};
-ghost use Rattle.script.specs.Scripts.{plain, step_of, Bounded};
+ghost use Rattle.script.specs.Scripts.{borrower_number, plain, step_of};
 
 use crate::step::forms::*;
 use crate::step::parts::blank;
 use lines::words::{is, split};
+use message::kind::Kind;
 use part::place::Place;
 
 mod forms;
 mod parts;
 
-/// Who may be up or down: the keeper, or one of the borrowers 0 to 3.
-#[derive(Clone, Copy)]
+/// One of the borrowers 0 to 3.
+#[derive(Clone, Copy, Debug, PartialEq, Eq)]
+pub enum Borrower {
+    Zero = 0,
+    One = 1,
+    Two = 2,
+    Three = 3,
+}
+
+impl From<Borrower> for u8 {
+    ghost from_gives = { λ b n. n ≡ borrower_number b };
+
+    fn from(borrower: Borrower) -> u8 {
+        borrower as u8
+    }
+}
+
+/// Who may be up or down.
+#[derive(Clone, Copy, Debug, PartialEq, Eq)]
 pub enum Node {
     Keeper,
-    Borrower(u8),
+    Borrower(Borrower),
 }
 
 /// What a borrower is asked to do with a part.
-#[derive(Clone, Copy)]
+#[derive(Clone, Copy, Debug, PartialEq, Eq)]
 pub enum Act {
-    /// Ask for it: 0 to read, 1 to write.
-    Ask(u8),
+    /// Ask for it.
+    Ask(Kind),
     /// Show its copy.
     Show,
     /// Write these bytes.
@@ -31,7 +49,7 @@ pub enum Act {
 }
 
 /// What a line of the script asks for. `P` is how a part is named.
-#[derive(Clone, Copy)]
+#[derive(Clone, Copy, Debug, PartialEq, Eq)]
 pub enum Step<P> {
     /// Nothing: the line is passed over.
     Blank,
@@ -53,7 +71,7 @@ pub enum Step<P> {
     Stop(Node),
     /// A borrower is called, and may stop with so many bytes of its file written.
     Call {
-        who: u8,
+        who: Borrower,
         place: P,
         act: Act,
         torn: Option<u64>,
@@ -67,14 +85,15 @@ pub enum Step<P> {
     },
 }
 
-// What a line says, by its first word.
-fn read_line(line: &[u8]) -> Option<Step<Place>>
+/// What a line says, where it is in one of the forms.
+pub fn parse(line: &[u8]) -> Option<Step<Place>>
     ensures { option_map plain result ≡ step_of line.now }
 {
     if blank(line) {
         return Some(Step::Blank);
     }
     let (word, rest) = split(line);
+    // The chain stays: of a `match` of the words the last arm's proof, over every way to leave it, didn't close.
     if is(word, b"set") {
         read_set(rest)
     } else if is(word, b"anew") {
@@ -90,13 +109,4 @@ fn read_line(line: &[u8]) -> Option<Step<Place>>
     } else {
         read_call(word, rest)
     }
-}
-
-/// What a line says, where it is in one of the forms.
-/// It names only borrowers and kinds of asks that there are, so a caller need not look again.
-pub fn parse(line: &[u8]) -> Option<Step<Place>>
-    ensures says { option_map plain result ≡ step_of line.now }
-    ensures within { IfSome result Bounded }
-{
-    read_line(line)
 }

@@ -1,4 +1,5 @@
-use crate::step::{Act, Node, Step, parse};
+use crate::step::{Act, Borrower, Node, Step, parse};
+use message::kind::Kind;
 use std::test::Fail;
 
 #[test]
@@ -37,7 +38,7 @@ fn asks(rt: HostRuntime) -> Result<(), Fail> {
     let names = [10u8, 11, 12, 13];
     assert!(rt; names[who as usize] == 13, "the borrower is one of four");
     assert!(rt; place.at == 16383);
-    assert!(rt; matches!(act, Act::Ask(1)));
+    assert!(rt; matches!(act, Act::Ask(Kind::Writing)));
     assert_eq!(rt; torn, Some(12));
     Ok(())
 }
@@ -89,12 +90,17 @@ fn deliveries(rt: HostRuntime) -> Result<(), Fail> {
         return Err(Fail::new("deliver to"));
     };
     assert_eq!(rt; cut, None);
-    assert!(rt; matches!(to, Some(Node::Borrower(2))));
+    assert!(rt; matches!(to, Some(Node::Borrower(Borrower::Two))));
     assert_eq!(rt; torn, None);
     assert!(rt; parse(b"deliver 7 to 2 cut 3").is_none());
     assert!(rt; parse(b"deliver").is_none());
     assert!(rt; matches!(parse(b"up keeper"), Some(Step::Up(Node::Keeper))));
-    assert!(rt; matches!(parse(b"stop 1"), Some(Step::Stop(Node::Borrower(1)))));
+    assert!(rt;
+        matches!(
+            parse(b"stop 1"),
+            Some(Step::Stop(Node::Borrower(Borrower::One)))
+        )
+    );
     assert!(rt; parse(b"up keeper 1").is_none());
     Ok(())
 }

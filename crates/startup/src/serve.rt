@@ -27,9 +27,9 @@ pub fn serve<A: Answers>(rt: &HostRuntime, to: &mut A) -> Result<()>
     // A count stays: an input need have no end, and 2^64 lines are more than any has.
     for _ in 0..u64::MAX {
         match input.next_line(&mut stdin)? {
-            Line::Whole => to.answer(Some(input.line()), &mut out)?,
-            Line::Cut => to.answer(None, &mut out)?,
-            Line::End => break,
+            Some(Line::Whole) => to.answer(Some(input.line()), &mut out)?,
+            Some(Line::Cut) => to.answer(None, &mut out)?,
+            None => break,
         }
         stdout.write_all(out.as_slice())?;
         out.clear();

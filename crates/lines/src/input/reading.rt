@@ -1,4 +1,4 @@
-ghost use Rattle.std.specs.Prelude.{◌≡◌, ℕ, ◌+◌, ◌≤◌, List, [], ◌++◌, length, take, drop, is_some, is_ok, IfOk, if◌then◌else◌, None, vec_len};
+ghost use Rattle.std.specs.Prelude.{◌≡◌, ℕ, ◌+◌, ◌<◌, ◌≤◌, List, [], ◌++◌, length, take, drop, is_some, IfOk, MatchOption, if◌then◌else◌, None, vec_len};
 ghost use Rattle.std.specs.Option.{unwrap_or};
 ghost use Rattle.lines.specs.Words.{before, behind};
 ghost use Rattle.lines.specs.Inputs.{rest, line_of, Handed};
@@ -14,23 +14,22 @@ const NEWLINE: u8 = b'\n';
 const BLOCK: usize = 65536;
 
 // Where the first line of a text ends, of which the first bytes are known to hold no newline.
-fn line_end(text: &[u8], seen: usize) -> usize
+fn line_end(text: &[u8], seen: usize) -> Option<usize>
     requires within { seen ≤ length text.now }
     requires clean { behind 10 (take seen text.now) ≡ None }
-    ensures { result ≡ length (before 10 text.now) }
+    ensures { MatchOption result (behind 10 text.now ≡ None) (λ i. (i ≡ length (before 10 text.now)) × (i < length text.now)) }
 {
-    seen + find(&text[seen..], NEWLINE)
+    Some(seen + find(&text[seen..], NEWLINE)?)
 }
 
-// Lets go of the bytes before a place; nothing changes where there is no memory.
-fn compact(held: &mut Vec<u8>, spare: &mut Vec<u8>, start: usize) -> Result<(), AllocError>
+// Lets go of the bytes before a place.
+fn compact(held: &mut Vec<u8>, start: usize)
     requires { start ≤ vec_len held.old }
-    ensures { held.new.items ≡ (if is_ok result then drop start held.old.items else held.old.items) }
+    ensures { held.new.items ≡ drop start held.old.items }
 {
-    spare.clear();
-    spare.extend_from_slice(&held[start..])?;
-    std::mem::swap(held, spare);
-    Ok(())
+    let left = held.len() - start;
+    held.copy_within(start.., 0);
+    held.truncate(left);
 }
 
 impl Input {
@@ -42,7 +41,6 @@ impl Input {
         Ok(Input {
             block,
             held: Vec::new(heap),
-            spare: Vec::new(heap),
             first: 0,
             last: 0,
             next: 0,
@@ -72,11 +70,9 @@ impl Input {
         ensures line { line_of self.new ≡ (if result then before 10 (rest self.old) else line_of self.old) }
         ensures after { rest self.new ≡ unwrap_or (behind 10 (rest self.old)) (rest self.old) }
     {
-        let left = self.left();
-        let size = line_end(left, seen);
-        if size >= left.len() {
+        let Some(size) = line_end(self.left(), seen) else {
             return false;
-        }
+        };
         self.first = self.next;
         self.last = self.next + size;
         self.next = self.last + 1;
@@ -97,37 +93,36 @@ impl Input {
     fn fill<R: Read>(&mut self, from: &mut R) -> io::Result<usize>
         ensures { IfOk result (λ n. (got : List ℕ) × (length got ≡ n) × (rest self.new ≡ rest self.old ++ got)) }
     {
-        if self.next > 0 {
-            compact(&mut self.held, &mut self.spare, self.next)?;
-            self.first = 0;
-            self.last = 0;
-            self.next = 0;
-        }
+        compact(&mut self.held, self.next);
+        self.first = 0;
+        self.last = 0;
+        self.next = 0;
         let count = from.read(self.block.as_mut_slice())?;
-        self.held.extend_from_slice(&self.block[0..count])?;
+        self.held.extend_from_slice(&self.block[..count])?;
         Ok(count)
     }
 
     // Hands out what is left at the end of the input.
-    fn finish(&mut self) -> Line
+    fn finish(&mut self) -> Option<Line>
         requires { None ≡ behind 10 (rest self.old) }
         ensures { Handed result (rest self.old) (line_of self.new) (rest self.new) }
     {
         if self.left().is_empty() {
-            return Line::End;
+            return None;
         }
         self.take_rest();
-        Line::Cut
+        Some(Line::Cut)
     }
 
     /// Hands out the next line, reading on as needed, and says how it came; `line` then gives it.
-    pub fn next_line<R: Read>(&mut self, from: &mut R) -> io::Result<Line>
+    /// None where the input is over.
+    pub fn next_line<R: Read>(&mut self, from: &mut R) -> io::Result<Option<Line>>
         ensures { IfOk result (λ l. (got : List ℕ) × Handed l (rest self.old ++ got) (line_of self.new) (rest self.new)) }
     {
         let mut seen = 0;
         for _ in 0..u64::MAX {
             if self.take_line(seen) {
-                return Ok(Line::Whole);
+                return Ok(Some(Line::Whole));
             }
             seen = self.left().len();
             if self.fill(from)? == 0 {

@@ -14,17 +14,10 @@ use part::place::Place;
 pub(super) fn read_set(rest: Option<&[u8]>) -> Option<Step<Place>>
     ensures { option_map plain result ≡ set_of (rest_words rest.entry) }
 {
-    let Some(text) = rest else {
-        return None;
-    };
-    let (word, more) = split(text);
-    let Some(keeper) = number(word) else {
-        return None;
-    };
+    let (word, more) = split(rest?);
+    let keeper = number(word)?;
     let mut borrowers = [0; 4];
-    if !fill(more, &mut borrowers) {
-        return None;
-    }
+    fill(more, &mut borrowers)?;
     Some(Step::Set { keeper, borrowers })
 }
 
@@ -32,17 +25,10 @@ pub(super) fn read_set(rest: Option<&[u8]>) -> Option<Step<Place>>
 pub(super) fn read_tick(rest: Option<&[u8]>) -> Option<Step<Place>>
     ensures { option_map plain result ≡ tick_of (rest_words rest.entry) }
 {
-    let Some(text) = rest else {
-        return None;
-    };
-    let (word, more) = split(text);
-    let Some(time) = number(word) else {
-        return None;
-    };
+    let (word, more) = split(rest?);
+    let time = number(word)?;
     let mut by = [time; 5];
-    if !fill(more, &mut by) {
-        return None;
-    }
+    fill(more, &mut by)?;
     Some(Step::Tick { time, by })
 }
 
@@ -50,17 +36,14 @@ pub(super) fn read_tick(rest: Option<&[u8]>) -> Option<Step<Place>>
 pub(super) fn read_anew(rest: Option<&[u8]>) -> Option<Step<Place>>
     ensures { option_map plain result ≡ anew_of (rest_words rest.entry) }
 {
-    if over(rest) { Some(Step::Anew) } else { None }
+    over(rest).then_some(Step::Anew)
 }
 
 // Who is meant by the only word left.
 fn only_node(rest: Option<&[u8]>) -> Option<Node>
     ensures { result ≡ only_node (rest_words rest.entry) }
 {
-    let Some(text) = rest else {
-        return None;
-    };
-    let (word, more) = split(text);
+    let (word, more) = split(rest?);
     if over(more) { node(word) } else { None }
 }
 
@@ -68,42 +51,25 @@ fn only_node(rest: Option<&[u8]>) -> Option<Node>
 pub(super) fn read_up(rest: Option<&[u8]>) -> Option<Step<Place>>
     ensures { option_map plain result ≡ up_of (rest_words rest.entry) }
 {
-    match only_node(rest) {
-        Some(node) => Some(Step::Up(node)),
-        None => None,
-    }
+    only_node(rest).map(Step::Up)
 }
 
 // Who goes down, from the words behind `stop`.
 pub(super) fn read_stop(rest: Option<&[u8]>) -> Option<Step<Place>>
     ensures { option_map plain result ≡ stop_of (rest_words rest.entry) }
 {
-    match only_node(rest) {
-        Some(node) => Some(Step::Stop(node)),
-        None => None,
-    }
+    only_node(rest).map(Step::Stop)
 }
 
 // Which message arrives, how and where, from the words behind `deliver`.
 pub(super) fn read_deliver(rest: Option<&[u8]>) -> Option<Step<Place>>
     ensures { option_map plain result ≡ deliver_of (rest_words rest.entry) }
 {
-    let Some(text) = rest else {
-        return None;
-    };
-    let (word, more) = split(text);
-    let Some(message) = number(word) else {
-        return None;
-    };
-    let Some((cut, more)) = keyed_number(more, b"cut") else {
-        return None;
-    };
-    let Some((to, more)) = keyed_node(more) else {
-        return None;
-    };
-    let Some(torn) = torn(more) else {
-        return None;
-    };
+    let (word, more) = split(rest?);
+    let message = number(word)?;
+    let (cut, more) = keyed(more, b"cut", number)?;
+    let (to, more) = keyed(more, b"to", node)?;
+    let torn = torn(more)?;
     Some(Step::Deliver {
         message,
         cut,
@@ -116,14 +82,8 @@ pub(super) fn read_deliver(rest: Option<&[u8]>) -> Option<Step<Place>>
 fn two(rest: Option<&[u8]>) -> Option<(&[u8], &[u8], Option<&[u8]>)>
     ensures { option_map (λ x. (x.0.now, x.1.now, rest_words x.2)) result ≡ two_of (rest_words rest.entry) }
 {
-    let Some(text) = rest else {
-        return None;
-    };
-    let (first, more) = split(text);
-    let Some(more) = more else {
-        return None;
-    };
-    let (second, more) = split(more);
+    let (first, more) = split(rest?);
+    let (second, more) = split(more?);
     Some((first, second, more))
 }
 
@@ -131,34 +91,23 @@ fn two(rest: Option<&[u8]>) -> Option<(&[u8], &[u8], Option<&[u8]>)>
 fn read_ask(rest: Option<&[u8]>) -> Option<(Act, Option<&[u8]>)>
     ensures { option_map (λ x. (x.0, rest_words x.1)) result ≡ ask_of (rest_words rest.entry) }
 {
-    let Some(text) = rest else {
-        return None;
-    };
-    let (word, more) = split(text);
-    match kind(word) {
-        Some(kind) => Some((Act::Ask(kind), more)),
-        None => None,
-    }
+    let (word, more) = split(rest?);
+    Some((Act::Ask(kind(word)?), more))
 }
 
 // A write of the bytes that the next word gives, and what is left.
 fn read_write(rest: Option<&[u8]>) -> Option<(Act, Option<&[u8]>)>
     ensures { option_map (λ x. (x.0, rest_words x.1)) result ≡ write_of (rest_words rest.entry) }
 {
-    let Some(text) = rest else {
-        return None;
-    };
-    let (word, more) = split(text);
-    match bytes(word) {
-        Some(bytes) => Some((Act::Write(bytes), more)),
-        None => None,
-    }
+    let (word, more) = split(rest?);
+    Some((Act::Write(bytes(word)?), more))
 }
 
 // What the word says is to be done, with what stands behind the part, and what is left.
 fn read_act<'a>(word: &[u8], rest: Option<&'a [u8]>) -> Option<(Act, Option<&'a [u8]>)>
     ensures { option_map (λ x. (x.0, rest_words x.1)) result ≡ act_of word.now (rest_words rest.entry) }
 {
+    // The chain stays, as in `parse`.
     if is(word, b"ask") {
         read_ask(rest)
     } else if is(word, b"show") {
@@ -176,25 +125,12 @@ fn read_act<'a>(word: &[u8], rest: Option<&'a [u8]>) -> Option<(Act, Option<&'a 
 pub(super) fn read_call(who: &[u8], rest: Option<&[u8]>) -> Option<Step<Place>>
     ensures { option_map plain result ≡ call_of who.now (rest_words rest.entry) }
 {
-    let Some(text) = rest else {
-        return None;
-    };
-    let (word, more) = split(text);
-    let Some(who) = borrower(who) else {
-        return None;
-    };
-    let Some((file, part, more)) = two(more) else {
-        return None;
-    };
-    let Some(place) = place(file, part) else {
-        return None;
-    };
-    let Some((act, more)) = read_act(word, more) else {
-        return None;
-    };
-    let Some(torn) = torn(more) else {
-        return None;
-    };
+    let (word, more) = split(rest?);
+    let who = borrower(who)?;
+    let (file, part, more) = two(more)?;
+    let place = place(file, part)?;
+    let (act, more) = read_act(word, more)?;
+    let torn = torn(more)?;
     Some(Step::Call {
         who,
         place,

@@ -1,12 +1,13 @@
-ghost use Rattle.std.specs.Prelude.{◌≡◌, ◌≤◌, if◌then◌else◌, Some, None};
+ghost use Rattle.std.specs.Prelude.{◌≡◌, ℕ, ◌≤◌, List, Option};
 ghost use Rattle.std.specs.Option.{option_map};
 ghost use Rattle.lines.specs.Words.{rest_words};
-ghost use Rattle.script.specs.Scripts.{is_blank, ended, fill_of, small_of, node_of, place_of, zeros, bytes_of, keyed_number, keyed_node, torn_of};
+ghost use Rattle.script.specs.Scripts.{is_blank, ended, fill_of, small_of, borrower_of, kind_of, node_of, place_of, zeros, bytes_of, keyed, torn_of, Reads};
 
-use crate::step::Node;
+use crate::step::{Borrower, Node};
 use lines::decimal::number;
 use lines::hex::decode;
 use lines::words::{is, split};
+use message::kind::Kind;
 use part::place::Place;
 
 // The line is passed over.
@@ -26,23 +27,20 @@ pub(super) fn over(rest: Option<&[u8]>) -> bool
     rest.is_none()
 }
 
-// Reads a number for each place, as far as there are words; false where a word is no number or has no place.
-pub(super) fn fill(rest: Option<&[u8]>, out: &mut [u64]) -> bool
-    ensures { (if result then Some out.new else None) ≡ fill_of (rest_words rest.entry) out.old }
+// Reads a number for each place, as far as there are words; none where a word is no number or has no place.
+pub(super) fn fill(rest: Option<&[u8]>, out: &mut [u64]) -> Option<()>
+    ensures { option_map (λ _. out.new) result ≡ fill_of (rest_words rest.entry) out.old }
 {
     let mut rest = rest;
-    for i in 0..out.len() {
+    for slot in out.iter_mut() {
         let Some(text) = rest else {
-            return true;
+            return Some(());
         };
         let (word, more) = split(text);
-        let Some(n) = number(word) else {
-            return false;
-        };
-        out[i] = n;
+        *slot = number(word)?;
         rest = more;
     }
-    rest.is_none()
+    over(rest).then_some(())
 }
 
 // The number that a word stands for, where it is below a limit.
@@ -50,24 +48,28 @@ fn small(word: &[u8], limit: u64) -> Option<u8>
     requires { limit ≤ 256 }
     ensures { result ≡ small_of word.now limit }
 {
-    match number(word) {
-        None => None,
-        Some(n) => { if n < limit { Some(n as u8) } else { None } }
-    }
+    let n = number(word)?;
+    if n < limit { Some(n as u8) } else { None }
 }
 
 // The borrower of this number.
-pub(super) fn borrower(word: &[u8]) -> Option<u8>
-    ensures { result ≡ small_of word.now 4 }
+pub(super) fn borrower(word: &[u8]) -> Option<Borrower>
+    ensures { result ≡ borrower_of word.now }
 {
-    small(word, 4)
+    match number(word)? {
+        0 => Some(Borrower::Zero),
+        1 => Some(Borrower::One),
+        2 => Some(Borrower::Two),
+        3 => Some(Borrower::Three),
+        _ => None,
+    }
 }
 
 // The kind of an ask.
-pub(super) fn kind(word: &[u8]) -> Option<u8>
-    ensures { result ≡ small_of word.now 2 }
+pub(super) fn kind(word: &[u8]) -> Option<Kind>
+    ensures { result ≡ kind_of word.now }
 {
-    small(word, 2)
+    Kind::try_from(small(word, 256)?).ok()
 }
 
 // Who is meant: the keeper, or a borrower.
@@ -77,31 +79,26 @@ pub(super) fn node(word: &[u8]) -> Option<Node>
     if is(word, b"keeper") {
         return Some(Node::Keeper);
     }
-    match small(word, 4) {
-        Some(id) => Some(Node::Borrower(id)),
-        None => None,
-    }
+    borrower(word).map(Node::Borrower)
 }
 
 // The part of a file, where there are such a file and such a part.
 pub(super) fn place(file: &[u8], part: &[u8]) -> Option<Place>
     ensures { option_map (λ p. p.at) result ≡ place_of file.now part.now }
 {
-    let Some(file) = small(file, 64) else {
-        return None;
-    };
-    let Some(part) = small(part, 256) else {
-        return None;
-    };
+    let file = small(file, 64)?;
+    let part = small(part, 256)?;
     Place::new(file, part)
 }
 
-// The number behind a key, where the key comes next, and what is left.
-pub(super) fn keyed_number<'a>(
+// What a reader makes of the word behind a key, where the key comes next, and what is left.
+pub(super) fn keyed<'a, T, F: Fn(&[u8]) -> Option<T>>(
     rest: Option<&'a [u8]>,
     key: &[u8],
-) -> Option<(Option<u64>, Option<&'a [u8]>)>
-    ensures { option_map (λ x. (x.0, rest_words x.1)) result ≡ keyed_number key.now (rest_words rest.entry) }
+    read: F,
+) -> Option<(Option<T>, Option<&'a [u8]>)>
+    requires { F.IsAlwaysCallable read }
+    ensures { (of : List ℕ → Option T) → Reads (F.post read) of → option_map (λ x. (x.0, rest_words x.1)) result ≡ keyed of key.now (rest_words rest.entry) }
 {
     let Some(text) = rest else {
         return Some((None, rest));
@@ -110,45 +107,16 @@ pub(super) fn keyed_number<'a>(
     if !is(word, key) {
         return Some((None, rest));
     }
-    let Some(more) = more else {
-        return None;
-    };
-    let (word, more) = split(more);
-    match number(word) {
-        Some(n) => Some((Some(n), more)),
-        None => None,
-    }
-}
-
-// Who stands behind `to`, where that comes next, and what is left.
-pub(super) fn keyed_node(rest: Option<&[u8]>) -> Option<(Option<Node>, Option<&[u8]>)>
-    ensures { option_map (λ x. (x.0, rest_words x.1)) result ≡ keyed_node (rest_words rest.entry) }
-{
-    let Some(text) = rest else {
-        return Some((None, rest));
-    };
-    let (word, more) = split(text);
-    if !is(word, b"to") {
-        return Some((None, rest));
-    }
-    let Some(more) = more else {
-        return None;
-    };
-    let (word, more) = split(more);
-    match node(word) {
-        Some(n) => Some((Some(n), more)),
-        None => None,
-    }
+    let (word, more) = split(more?);
+    Some((Some(read(word)?), more))
 }
 
 // How many bytes are left of what was being appended, where the line ends by `stop` and that number.
 pub(super) fn torn(rest: Option<&[u8]>) -> Option<Option<u64>>
     ensures { result ≡ torn_of (rest_words rest.entry) }
 {
-    let Some((count, more)) = keyed_number(rest, b"stop") else {
-        return None;
-    };
-    if over(more) { Some(count) } else { None }
+    let (count, more) = keyed(rest, b"stop", number)?;
+    over(more).then_some(count)
 }
 
 // A part of zeros.
@@ -163,8 +131,5 @@ pub(super) fn bytes(word: &[u8]) -> Option<[u8; 1024]>
     ensures { result ≡ bytes_of word.now }
 {
     let mut bytes = blank_part();
-    let Some(count) = decode(word, &mut bytes) else {
-        return None;
-    };
-    if count <= 1024 { Some(bytes) } else { None }
+    (decode(word, &mut bytes)? <= bytes.len()).then_some(bytes)
 }

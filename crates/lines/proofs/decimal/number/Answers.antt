@@ -8,11 +8,12 @@ pub returns-then-is_empty : goal.returns-then-is_empty
 returns-then-is_empty c = sym (no_number _ (eqb-true _ _ (sym c.if-is_empty.ensures)))
 
 pub loop-b-preserved : goal.loop-b-preserved
-loop-b-preserved c = read_step _ _ _ c.loop-b.b-index (omega arith) c.in-Some.ensures ∙ c.loop-b.invariant
+loop-b-preserved c = read_step _ _ _ c.loop-b.b-index (omega arith) c.in_ok-sum.ensures ∙ c.loop-b.invariant
 
-pub returns-in_default : goal.returns-in_default
-returns-in_default c =
-    read_step _ _ _ c.loop-b.b-index (omega arith) c.in_default.ensures ∙ c.loop-b.invariant ∙ read_number _ (omega arith)
+pub returns-in_err-sum : goal.returns-in_err-sum
+returns-in_err-sum c =
+    c.from_residual.ensures
+    ∙ read_step _ _ _ c.loop-b.b-index (omega arith) c.in_err-sum.ensures ∙ c.loop-b.invariant ∙ read_number _ (omega arith)
 
 pub returns : goal.returns
 returns c =
