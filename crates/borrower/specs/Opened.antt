@@ -1,6 +1,6 @@
 -- What a tablet is after coming up from its journal.
 -- Assumes nothing.
-use Rattle.std.specs.Prelude.{◌≡◌, ℕ, List, [], ◌∷◌, Ok, Err, Result}
+use Rattle.std.specs.Prelude.{◌≡◌, ℕ, List, [], ◌∷◌, codes, Ok, Err, Result}
 use Rattle.part.specs.declared.who.Who.{Who}
 use Rattle.part.specs.Parts.{at_1}
 use Rattle.journal.specs.declared.record.Owner.TheVariants as owner
@@ -35,3 +35,9 @@ OpenedAs was is d d' w s (Ok t) = CameUp w s was t × (is ≡ bytes_of (records_
 OpenedAs was is d d' w s (Err no.NoMemory) = (is ≡ was) × (d' ≡ d)
 OpenedAs was is d d' w s (Err (no.NoJournal why.Malformed)) = Refused owner.Borrower was × (is ≡ was) × (d' ≡ d)
 OpenedAs was is d d' w s (Err (no.NoJournal (why.Store e))) = Unit {0}
+
+-- what is printed where there is no tablet
+abbrev pub no_tablet_text : NoTablet → List ℕ
+no_tablet_text no.NoMemory = codes "there is no memory for the parts"
+no_tablet_text (no.NoJournal why.Malformed) = codes "FILE is no journal of a borrower; it is left as it is"
+no_tablet_text (no.NoJournal (why.Store e)) = codes "FILE could not be cut and synced"

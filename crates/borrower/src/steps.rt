@@ -168,7 +168,11 @@ fn round_up(x: u32) -> u32
 fn raise(filed: u32, number: u32) -> u32
     ensures { result ≡ cond (nat_le number filed) filed (rounded number) }
 {
-    if number <= filed { filed } else { round_up(number) }
+    if number <= filed {
+        filed
+    } else {
+        round_up(number)
+    }
 }
 
 impl OnFile {

@@ -57,16 +57,21 @@ impl From<OpenError> for NoTablet {
     }
 }
 
-// As a user of a program reads it, who calls the journal's file FILE.
+// In the words of the programs that call the journal's file FILE.
 impl fmt::Display for NoTablet {
+    ghost use Rattle.std.specs.Prelude.{Some};
+    ghost use Rattle.borrower.specs.Opened.{no_tablet_text};
+
+    ghost output = { λ why. Some (no_tablet_text why) };
+
     fn fmt<W: fmt::Write>(&self, f: &mut fmt::Formatter<W>) -> fmt::Result {
         match self {
-            NoTablet::NoMemory => write!(f, "there is no memory for the parts"),
+            NoTablet::NoMemory => f.write_str("there is no memory for the parts"),
             NoTablet::NoJournal(OpenError::Malformed) => {
-                write!(f, "FILE is no journal of a borrower; it is left as it is")
+                f.write_str("FILE is no journal of a borrower; it is left as it is")
             }
             NoTablet::NoJournal(OpenError::Store(_)) => {
-                write!(f, "FILE could not be cut and synced")
+                f.write_str("FILE could not be cut and synced")
             }
         }
     }

@@ -25,23 +25,19 @@ impl Tablet {
         ensures effect { (v : List ℕ) → effect v result ≡ ask_effect self.old.who.id place.at kind clock self.old.short (part_at self.old place.at) (filed_at self.old place.at) }
         ensures left { Stepped self.old self.new place.at (asked_part clock self.old.short (part_at self.old place.at)) }
     {
+        let who = self.who;
         let (next, answer) = self.part(place).ask(self.timing(clock));
         let record = self.keep(place, next);
-        match answer {
-            Ok(asked) => Outcome::sending(
-                record,
-                Message::Ask {
-                    head: Head {
-                        who: self.who,
-                        place,
-                        number: asked.number,
-                    },
-                    kind,
-                    written: asked.written,
-                },
-            ),
-            Err(e) => Outcome::answering(record, Err(e)),
-        }
+        let message = answer.map(|asked| Message::Ask {
+            head: Head {
+                who,
+                place,
+                number: asked.number,
+            },
+            kind,
+            written: asked.written,
+        });
+        Outcome::sending(record, message)
     }
 
     /// Whether the copy of a part may be shown; `copy` then gives its bytes.
@@ -61,10 +57,8 @@ impl Tablet {
         let who = self.who;
         let (next, answer) = self.part(place).write(self.timing(clock));
         let record = self.keep(place, next);
-        match answer {
-            Ok(number) => Outcome::sending(record, Message::Write(Head { who, place, number })),
-            Err(e) => Outcome::answering(record, Err(e)),
-        }
+        let message = answer.map(|number| Message::Write(Head { who, place, number }));
+        Outcome::sending(record, message)
     }
 
     /// Lets go of the copy of a part, if there is one.
