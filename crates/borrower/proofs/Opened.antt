@@ -1,6 +1,6 @@
 -- A tablet that went through the records of its journal has come up.
 -- Assumes nothing.
-use Rattle.std.proofs.Common.{◌≡◌, ℕ, cond, eqb, List, [], ◌∷◌, sym, ap, ◌∙◌}
+use Rattle.std.proofs.Common.{◌≡◌, ℕ, cond, eqb, List, [], ◌∷◌, sym, ap, ◌∙◌, subst}
 use mathlib.Core.Path.{fun_ext}
 use Rattle.std.proofs.lemmas.Bool.{cond_both}
 use Rattle.part.specs.declared.who.Who.{Who}
@@ -27,10 +27,7 @@ risen_at : (q : ℕ) (n : OnFile) (fs : ℕ → OnFile) → ◌≡◌ {A = ℕ �
 risen_at q n fs = fun_ext (λ x. cond_both (eqb x q) n (fs x) (λ (m : OnFile). cond (eqb x q) (risen n) (risen (fs x)) ≡ risen m) (λ e. rw e) (λ e. rw e))
 
 pub through : (w : Who) (s : ℕ) (rs : List Rec) (t u : Tablet) (fs : ℕ → OnFile) → Came w s fs t → Through Reread t rs u → Came w s (said rs fs) u
-through w s [] t u fs c e = subst_came e
-  where
-    subst_came : t ≡ u → Came w s fs u
-    subst_came p = rw (sym p) c
+through w s [] t u fs c e = subst (Came w s fs) e c
 through w s (Numbers q a n ∷ rs) t u fs c (m, p, r) =
     let k : OnFile = record { ask = a; write = n } in
     through w s rs m u (at_1 q k fs)

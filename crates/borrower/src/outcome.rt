@@ -1,6 +1,7 @@
 ghost use Rattle.std.specs.Prelude.{◌≡◌, ℕ, List, [], ◌∷◌};
+ghost use Rattle.std.specs.Result.{result_ok};
 ghost use Rattle.message.specs.Format.{said};
-ghost use Rattle.borrower.specs.Outcomes.{effect, recorded_by, turned_away, told};
+ghost use Rattle.borrower.specs.Outcomes.{effect, recorded_by, sent_by, answered, turned_away, told};
 
 use journal::record::Record;
 use message::form::Message;
@@ -39,13 +40,13 @@ impl Outcome {
         }
     }
 
-    // It is done, and this is sent.
-    pub(crate) fn sending(due: Option<Record>, message: Message) -> Outcome
-        ensures { (v : List ℕ) → effect v result ≡ record { records = recorded_by due; sends = said v message ∷ []; tells = []; answer = Ok tt } }
+    // This is sent, or it is refused.
+    pub(crate) fn sending(due: Option<Record>, message: Result<Message, Refusal>) -> Outcome
+        ensures { (v : List ℕ) → effect v result ≡ record { records = recorded_by due; sends = sent_by v (result_ok message); tells = []; answer = answered message } }
     {
         Outcome {
-            send: Some(message),
-            ..Outcome::answering(due, Ok(()))
+            send: message.ok(),
+            ..Outcome::answering(due, message.map(|_| ()))
         }
     }
 

@@ -18,7 +18,7 @@ impl Timing {
 }
 
 impl Held {
-    /// A copy that is no longer valid at this clock reading.
+    /// Whether the copy is no longer valid.
     pub fn is_stale(self, time: Timing) -> bool
         ensures { result ≡ stale time.clock time.short (Some self) }
     {
@@ -151,8 +151,7 @@ impl Part {
         Part {
             ask,
             write: file.write,
-            asked: 0,
-            hold: None,
+            ..Part::default()
         }
     }
 }

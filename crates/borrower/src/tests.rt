@@ -102,11 +102,11 @@ fn rounding(rt: HostRuntime) {
     }
 }
 
-// The number of an ask that is sent, or 0.
-fn asked(outcome: Outcome) -> u32 {
+// The number of an ask that is sent.
+fn asked(outcome: Outcome) -> Option<u32> {
     match outcome.send {
-        Some(Message::Ask(ask)) => ask.head.number,
-        _ => 0,
+        Some(Message::Ask(ask)) => Some(ask.head.number),
+        _ => None,
     }
 }
 
@@ -121,7 +121,7 @@ fn numbers_only_rise(rt: HostRuntime) -> Result<(), Fail> {
         let mut tablet = Tablet::open(rt.alloc(), who, 100, &mut store)?;
         for _ in 0..70 {
             let outcome = tablet.call(&mut store, 1000, place, Call::Ask(Kind::Reading))?;
-            let number = asked(outcome);
+            let number = asked(outcome).ok_or("no ask is sent")?;
             assert!(rt; number > last);
             last = number;
         }

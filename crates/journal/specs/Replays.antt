@@ -1,8 +1,9 @@
 -- What a journal makes of a state that its records are applied to, one after another.
 -- Assumes nothing.
-use Rattle.std.specs.Prelude.{◌≡◌, ℕ, ◌⊎◌, List, [], ◌∷◌, Ok, Err, Result}
+use Rattle.std.specs.Prelude.{◌≡◌, ℕ, ◌⊎◌, List, [], ◌∷◌, codes, Ok, Err, Result}
 use Rattle.message.specs.declared.form.Malformed.{Malformed}
 use Rattle.journal.specs.declared.record.Owner.{Owner}
+use Rattle.journal.specs.declared.record.Owner.TheVariants as owner
 use Rattle.journal.specs.declared.replay.OpenError.{OpenError}
 use Rattle.journal.specs.declared.replay.OpenError.TheVariants as why
 use Rattle.journal.specs.Records.{Rec, bytes_of, Torn, records_of, rest_of}
@@ -29,3 +30,10 @@ Opened P o was is s t (Err why.NoMemory) = ⊥
 Opened P o was is s t (Err (why.Malformed p)) = (p ≡ o) × Refused o was.appended × (is.appended ≡ was.appended) × (is.synced ≡ was.synced) × (s ≡ t)
 Opened P o was is s t (Err (why.Store e)) =
     ((is.appended ≡ was.appended) ⊎ (is.appended ≡ bytes_of (records_of o was.appended))) × Torn o (rest_of o was.appended) × Through P s (records_of o was.appended) t
+
+-- what is printed where no journal was opened
+abbrev pub unopened_text : OpenError → List ℕ
+unopened_text why.NoMemory = codes "there is no memory for the parts"
+unopened_text (why.Malformed owner.Keeper) = codes "FILE is no journal of a keeper; it is left as it is"
+unopened_text (why.Malformed owner.Borrower) = codes "FILE is no journal of a borrower; it is left as it is"
+unopened_text (why.Store e) = codes "FILE could not be cut and synced"

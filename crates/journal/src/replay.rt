@@ -27,6 +27,11 @@ pub enum OpenError {
 
 // As whoever started a program reads it, who calls the journal's file FILE.
 impl fmt::Display for OpenError {
+    ghost use Rattle.std.specs.Prelude.{Some};
+    ghost use Rattle.journal.specs.Replays.{unopened_text};
+
+    ghost output = { λ why. Some (unopened_text why) };
+
     fn fmt<W: fmt::Write>(&self, f: &mut fmt::Formatter<W>) -> fmt::Result {
         f.write_str(match self {
             OpenError::NoMemory => "there is no memory for the parts",

@@ -28,18 +28,15 @@ impl Tablet {
         let who = self.who;
         let (next, answer) = self.part(place).ask(self.timing(clock));
         let record = self.keep(place, next);
-        match answer {
-            Ok(Asked { number, written }) => {
-                let head = Head { who, place, number };
-                let ask = Ask {
-                    head,
-                    kind,
-                    written,
-                };
-                Outcome::sending(record, Message::Ask(ask))
-            }
-            Err(e) => Outcome::answering(record, Err(e)),
-        }
+        let message = answer.map(|Asked { number, written }| {
+            let head = Head { who, place, number };
+            Message::Ask(Ask {
+                head,
+                kind,
+                written,
+            })
+        });
+        Outcome::sending(record, message)
     }
 
     /// Whether the copy of a part may be shown; `copy` then gives its bytes.
@@ -59,10 +56,8 @@ impl Tablet {
         let who = self.who;
         let (next, answer) = self.part(place).write(self.timing(clock));
         let record = self.keep(place, next);
-        match answer {
-            Ok(number) => Outcome::sending(record, Message::Write(Head { who, place, number })),
-            Err(e) => Outcome::answering(record, Err(e)),
-        }
+        let message = answer.map(|number| Message::Write(Head { who, place, number }));
+        Outcome::sending(record, message)
     }
 
     /// Lets go of the copy of a part, if there is one.

@@ -40,7 +40,7 @@ impl Tablet {
         }
         let (next, number) = self.part(place).on_recall();
         let record = self.keep(place, next);
-        Outcome::sending(record, Message::Back(Head { who, place, number }))
+        Outcome::sending(record, Ok(Message::Back(Head { who, place, number })))
     }
 
     // The writer is told what became of its write.
