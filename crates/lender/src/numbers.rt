@@ -30,7 +30,8 @@ impl Numbers {
     pub fn of(&self, who: Who) -> Counts
         ensures { result ≡ counts_at self.now who.id }
     {
-        self.counts[who.id as usize]
+        let w = who.id as usize;
+        self.counts[w]
     }
 
     /// A borrower has these numbers from now on.

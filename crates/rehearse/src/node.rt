@@ -1,6 +1,6 @@
-ghost use Rattle.std.specs.Prelude.{◌≡◌, false, IfOk};
+ghost use Rattle.std.specs.Prelude.{◌≡◌, None};
 
-use anyhow::anyhow;
+use anyhow::{Context, Result};
 use borrower::outcome::{Call, Outcome};
 use borrower::tablet::Tablet;
 use journal::record::{Record, encode};
@@ -8,91 +8,83 @@ use journal::store::Store;
 use journal::store::memory::MemoryStore;
 use part::place::Place;
 use part::who::Who;
-use std::alloc::{AllocError, Global};
+use std::alloc::Global;
 
-/// A borrower with its journal in memory, up or down.
+/// A borrower with its journal in memory. It is up while it has a tablet.
 #[derive(Drop)]
 pub struct Node {
     pub who: Who,
-    pub up: bool,
     short: u64,
-    tablet: Tablet,
+    tablet: Option<Tablet>,
     file: MemoryStore,
 }
 
 impl Node {
     /// Down, with an empty journal.
-    pub fn new(heap: Global, who: Who, short: u64) -> Result<Node, AllocError>
-        ensures { IfOk result (λ n. (n.up ≡ false) × (n.who ≡ who)) }
+    pub fn new(heap: Global, who: Who, short: u64) -> Node
+        ensures down { result.tablet ≡ None }
+        ensures who { result.who ≡ who }
     {
-        let tablet = Tablet::new(heap, who, short)?;
-        let file = MemoryStore::new(heap);
-        Ok(Node {
+        Node {
             who,
-            up: false,
             short,
-            tablet,
-            file,
-        })
+            tablet: None,
+            file: MemoryStore::new(heap),
+        }
+    }
+
+    /// Whether it is up.
+    pub fn is_up(&self) -> bool {
+        self.tablet.is_some()
     }
 
     /// Comes up from its journal.
-    pub fn come_up(&mut self, heap: Global) -> anyhow::Result<()> {
-        let Ok(tablet) = Tablet::open(heap, self.who, self.short, &mut self.file) else {
-            return Err(anyhow!("a journal in memory could not be opened"));
-        };
-        self.tablet = tablet;
-        self.up = true;
+    pub fn come_up(&mut self, heap: Global) -> Result<()> {
+        let tablet = Tablet::open(heap, self.who, self.short, &mut self.file)?;
+        self.tablet = Some(tablet);
         Ok(())
     }
 
-    /// A call: what comes of it leaves once its record is synced.
-    pub fn call(&mut self, clock: u64, place: Place, call: Call) -> anyhow::Result<Outcome> {
-        let Ok(outcome) = self.tablet.call(&mut self.file, clock, place, call) else {
-            return Err(anyhow!("a journal in memory could not be written"));
+    /// Stops: all but its journal is gone.
+    pub fn stop(&mut self) {
+        self.tablet = None;
+    }
+
+    /// A call: what comes of it leaves once its record is synced. None comes of it where it is down.
+    pub fn call(&mut self, clock: u64, place: Place, call: Call) -> Result<Option<Outcome>> {
+        let Some(tablet) = self.tablet.as_mut() else {
+            return Ok(None);
         };
-        Ok(outcome)
+        Ok(Some(tablet.call(&mut self.file, clock, place, call)?))
     }
 
     /// A call in the middle of which it stops: of the record only so many first bytes are left, and nothing leaves.
-    pub fn call_torn(
-        &mut self,
-        clock: u64,
-        place: Place,
-        call: Call,
-        left: u64,
-    ) -> anyhow::Result<()> {
-        let outcome = self.tablet.perform(clock, place, call);
-        self.up = false;
-        match outcome.record {
+    pub fn call_torn(&mut self, clock: u64, place: Place, call: Call, left: u64) -> Result<()> {
+        let outcome = self
+            .tablet
+            .as_mut()
+            .map(|tablet| tablet.perform(clock, place, call));
+        self.stop();
+        match outcome.and_then(|outcome| outcome.record) {
             Some(record) => tear(&mut self.file, record, left),
             None => Ok(()),
         }
     }
 
     /// The copy of a part.
-    pub fn copy(&self, place: Place) -> &[u8; 1024] {
-        self.tablet.copy(place)
+    pub fn copy(&self, place: Place) -> Option<&[u8; 1024]> {
+        match &self.tablet {
+            Some(tablet) => Some(tablet.copy(place)),
+            None => None,
+        }
     }
 }
 
 // Appends the first bytes of a record.
-fn tear(file: &mut MemoryStore, record: Record, left: u64) -> anyhow::Result<()> {
+fn tear(file: &mut MemoryStore, record: Record, left: u64) -> Result<()> {
     let mut bytes = [0; 1032];
-    let Some(size) = encode(&record, &[0; 1024], &mut bytes) else {
-        return Ok(());
-    };
-    let size = size.min(1032);
-    let end = if left < size as u64 {
-        left as usize
-    } else {
-        size
-    };
-    if end > 1032 {
-        return Ok(());
-    }
-    let (Ok(()), Ok(())) = (file.append(&bytes[0..end]), file.sync()) else {
-        return Err(anyhow!("a journal in memory could not be written"));
-    };
-    Ok(())
+    let size = encode(&record, &[0; 1024], &mut bytes).context("a record is too long")?;
+    let left = usize::try_from(left).unwrap_or(size);
+    file.append(&bytes[0..left.min(size).min(1032)])?;
+    Ok(file.sync()?)
 }

@@ -33,7 +33,7 @@ fn head(out: &mut Output, word: &str, head: Head) -> Result<(), AllocError> {
 }
 
 fn kind(out: &mut Output, kind: Kind) -> Result<(), AllocError> {
-    also(out, u64::from(kind.byte()))
+    also(out, u64::from(u8::from(kind)))
 }
 
 // Prints the bytes of a part behind a space, without the zeros at their end.
@@ -45,14 +45,10 @@ fn bytes(out: &mut Output, part: &[u8; 1024]) -> Result<(), AllocError> {
 /// Prints what a message says, with the part that it carries.
 pub fn message(out: &mut Output, message: Message, part: &[u8; 1024]) -> Result<(), AllocError> {
     match message {
-        Message::Ask {
-            head: h,
-            kind: k,
-            written,
-        } => {
-            head(out, "ask", h)?;
-            kind(out, k)?;
-            also(out, u64::from(written))?;
+        Message::Ask(ask) => {
+            head(out, "ask", ask.head)?;
+            kind(out, ask.kind)?;
+            also(out, u64::from(ask.written))?;
         }
         Message::Loan { head: h, kind: k } => {
             head(out, "loan", h)?;

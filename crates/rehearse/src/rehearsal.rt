@@ -8,13 +8,12 @@ use message::refusal::Refusal;
 use part::place::Place;
 use script::step::Step;
 
-/// What is printed of a line.
-#[derive(Clone, Copy)]
+/// What is printed of a line that is done.
+#[derive(Clone, Copy, Debug, PartialEq, Eq)]
 pub enum Said {
     Nothing,
     Anew,
     Done,
-    Refused(Refusal),
 }
 
 /// A rehearsal: its clocks, and whether a line was played that a `set` may not follow.
@@ -29,59 +28,55 @@ impl Rehearsal {
     pub fn new(terms: Terms) -> Rehearsal
         ensures { Started terms result }
     {
-        let clocks = Clocks::new(terms, &[0; 5]);
         Rehearsal {
-            clocks,
+            clocks: Clocks::new(terms, &[0; 5]),
             begun: false,
         }
     }
 
-    fn set(&mut self, keeper: u64, borrowers: [u64; 4]) -> Said
+    fn set(&mut self, keeper: u64, borrowers: [u64; 4]) -> Result<Said, Refusal>
         ensures { SetTo self.old self.new keeper borrowers result }
     {
         if self.begun {
-            return Said::Refused(Refusal::Malformed);
+            return Err(Refusal::Malformed);
         }
         let [a, b, c, d] = borrowers;
         self.clocks = Clocks::new(self.clocks.terms(), &[keeper, a, b, c, d]);
         self.begun = true;
-        Said::Done
+        Ok(Said::Done)
     }
 
-    fn anew(&mut self) -> Said
-        ensures { Started self.old.clocks.terms self.new × (result ≡ Said.Anew) }
+    fn anew(&mut self) -> Result<Said, Refusal>
+        ensures { Started self.old.clocks.terms self.new × (result ≡ Ok Said.Anew) }
     {
         self.clocks = Clocks::new(self.clocks.terms(), &[0; 5]);
         self.begun = false;
-        Said::Anew
+        Ok(Said::Anew)
     }
 
-    fn tick(&mut self, time: u64, by: &[u64; 5]) -> Said
+    fn tick(&mut self, time: u64, by: &[u64; 5]) -> Result<Said, Refusal>
         ensures { Ticked self.old self.new time by.now result }
     {
         self.begun = true;
         match self.clocks.pass(time, by) {
-            Ok(()) => Said::Done,
-            Err(_) => Said::Refused(Refusal::Malformed),
+            Ok(()) => Ok(Said::Done),
+            Err(_) => Err(Refusal::Malformed),
         }
     }
 
     /// Plays one line; none is a line in no form.
-    pub fn play(&mut self, step: Option<Step<Place>>) -> Said
+    pub fn play(&mut self, step: Option<Step<Place>>) -> Result<Said, Refusal>
         ensures { Played self.old self.new step result }
     {
         let Some(step) = step else {
-            return Said::Refused(Refusal::Malformed);
+            return Err(Refusal::Malformed);
         };
         match step {
-            Step::Blank => Said::Nothing,
+            Step::Blank => Ok(Said::Nothing),
             Step::Set { keeper, borrowers } => self.set(keeper, borrowers),
             Step::Anew => self.anew(),
             Step::Tick { time, by } => self.tick(time, &by),
-            Step::Up(_) => self.later(),
-            Step::Stop(_) => self.later(),
-            Step::Call { .. } => self.later(),
-            Step::Deliver { .. } => self.later(),
+            Step::Up(_) | Step::Stop(_) | Step::Call { .. } | Step::Deliver { .. } => self.later(),
         }
     }
 
@@ -93,10 +88,10 @@ impl Rehearsal {
     }
 
     // What is not about time.
-    fn later(&mut self) -> Said
+    fn later(&mut self) -> Result<Said, Refusal>
         ensures { Later self.old self.new result }
     {
         self.begun = true;
-        Said::Refused(Refusal::Malformed)
+        Err(Refusal::Malformed)
     }
 }

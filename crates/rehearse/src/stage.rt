@@ -1,14 +1,18 @@
+ghost use Rattle.std.specs.Prelude.{◌<◌};
+
 use crate::node::Node;
 use crate::print;
 use crate::rehearsal::{Rehearsal, Said};
+use anyhow::Result;
 use borrower::outcome::{Call, Outcome};
 use clock::terms::Terms;
 use lines::output::Output;
 use message::refusal::Refusal;
 use part::place::Place;
 use part::who::Who;
-use script::step::{Act, Borrower, Node as Name, Step};
-use startup::print::refused;
+use script::step::{Act, Borrower, Node as Name, Step, parse};
+use startup::print::{answer, refused};
+use startup::serve::Answers;
 use std::alloc::{AllocError, Global};
 
 // What nobody has written.
@@ -20,105 +24,89 @@ pub struct Stage {
     heap: Global,
     terms: Terms,
     time: Rehearsal,
-    nodes: Vec<Node>,
+    nodes: [Node; 4],
     sent: u64,
 }
 
-fn cast(heap: Global, short: u64) -> Result<Vec<Node>, AllocError> {
-    let mut nodes = Vec::new(heap);
-    for id in 0u8..4 {
-        if let Some(who) = Who::new(id) {
-            nodes.push(Node::new(heap, who, short)?)?;
-        }
+// Where a borrower stands in a row of four.
+fn index(who: Borrower) -> usize
+    ensures { result < 4 }
+{
+    match who {
+        Borrower::Zero => 0,
+        Borrower::One => 1,
+        Borrower::Two => 2,
+        Borrower::Three => 3,
     }
-    Ok(nodes)
+}
+
+// The borrowers, all down.
+fn cast(heap: Global, short: u64) -> [Node; 4] {
+    [
+        Node::new(heap, Who { id: 0 }, short),
+        Node::new(heap, Who { id: 1 }, short),
+        Node::new(heap, Who { id: 2 }, short),
+        Node::new(heap, Who { id: 3 }, short),
+    ]
 }
 
 impl Stage {
     /// At first all are down, and every clock shows 0.
-    pub fn new(heap: Global, terms: Terms) -> Result<Stage, AllocError> {
-        let nodes = cast(heap, terms.short)?;
-        Ok(Stage {
+    pub fn new(heap: Global, terms: Terms) -> Stage {
+        Stage {
             heap,
             terms,
             time: Rehearsal::new(terms),
-            nodes,
+            nodes: cast(heap, terms.short),
             sent: 0,
-        })
-    }
-
-    /// Plays one line; none is a line in no form.
-    pub fn play(&mut self, step: Option<Step<Place>>, out: &mut Output) -> anyhow::Result<()> {
-        let said = self.time.play(step);
-        let Some(step) = step else {
-            self.say(said, out)?;
-            return Ok(());
-        };
-        match step {
-            Step::Up(name) => self.up(name, out),
-            Step::Stop(name) => self.stop(name, out),
-            Step::Call {
-                who,
-                place,
-                act,
-                torn,
-            } => self.call(who, place, act, torn, out),
-            Step::Anew => {
-                self.nodes = cast(self.heap, self.terms.short)?;
-                self.sent = 0;
-                self.say(said, out)?;
-                Ok(())
-            }
-            Step::Blank => Ok(()),
-            Step::Set { .. } => Ok(self.say(said, out)?),
-            Step::Tick { .. } => Ok(self.say(said, out)?),
-            Step::Deliver { .. } => Ok(self.say(said, out)?),
         }
     }
 
-    fn say(&self, said: Said, out: &mut Output) -> Result<(), AllocError> {
-        match said {
-            Said::Nothing => Ok(()),
-            Said::Anew => print::word(out, "anew"),
-            Said::Done => print::word(out, "done"),
-            Said::Refused(refusal) => refused(out, refusal),
+    // Plays one line; none is a line in no form.
+    fn play(&mut self, step: Option<Step<Place>>, out: &mut Output) -> Result<()> {
+        let said = self.time.play(step);
+        match step {
+            Some(Step::Up(name)) => self.up(name, out),
+            Some(Step::Stop(name)) => self.stop(name, out),
+            Some(
+                Step::Call {
+                    who,
+                    place,
+                    act,
+                    torn,
+                },
+            ) => self.call(who, place, act, torn, out),
+            Some(Step::Anew) => {
+                self.nodes = cast(self.heap, self.terms.short);
+                self.sent = 0;
+                Ok(say(said, out)?)
+            }
+            None
+            | Some(Step::Blank | Step::Set { .. } | Step::Tick { .. } | Step::Deliver { .. }) => {
+                Ok(say(said, out)?)
+            }
         }
     }
 
     // Somebody comes up; who is up already is refused by 1, and so is the keeper.
-    fn up(&mut self, name: Name, out: &mut Output) -> anyhow::Result<()> {
-        let Some(i) = self.index(name, false) else {
-            return Ok(refused(out, Refusal::Malformed)?);
-        };
-        if i < self.nodes.len() {
-            self.nodes[i].come_up(self.heap)?;
+    fn up(&mut self, name: Name, out: &mut Output) -> Result<()> {
+        match name {
+            Name::Borrower(who) if !self.nodes[index(who)].is_up() => {
+                self.nodes[index(who)].come_up(self.heap)?;
+                Ok(print::word(out, "done")?)
+            }
+            _ => Ok(refused(out, Refusal::Malformed)?),
         }
-        Ok(print::word(out, "done")?)
     }
 
     // Somebody stops; who is down already is refused by 1, and so is the keeper.
-    fn stop(&mut self, name: Name, out: &mut Output) -> anyhow::Result<()> {
-        let Some(i) = self.index(name, true) else {
-            return Ok(refused(out, Refusal::Malformed)?);
-        };
-        if i < self.nodes.len() {
-            self.nodes[i].up = false;
-        }
-        Ok(print::word(out, "done")?)
-    }
-
-    // The borrower of a name, where it is up or down as asked.
-    fn index(&self, name: Name, up: bool) -> Option<usize> {
+    fn stop(&mut self, name: Name, out: &mut Output) -> Result<()> {
         match name {
-            Name::Keeper => None,
-            Name::Borrower(who) => {
-                let i = usize::from(u8::from(who));
-                if i < self.nodes.len() && self.nodes[i].up == up {
-                    Some(i)
-                } else {
-                    None
-                }
+            Name::Borrower(who) if self.nodes[index(who)].is_up() => {
+                self.nodes[index(who)].stop();
+                Ok(print::word(out, "done")?)
             }
+            _ => Ok(refused(out, Refusal::Malformed)?),
         }
     }
 
@@ -130,31 +118,28 @@ impl Stage {
         act: Act,
         torn: Option<u64>,
         out: &mut Output,
-    ) -> anyhow::Result<()> {
-        let i = usize::from(u8::from(who));
-        if i >= self.nodes.len() {
-            return Ok(refused(out, Refusal::Malformed)?);
-        }
-        if !self.nodes[i].up {
+    ) -> Result<()> {
+        let node = &mut self.nodes[index(who)];
+        if !node.is_up() {
             return Ok(print::word(out, "down")?);
         }
         let clock = self.time.reading(u8::from(who));
         let (call, bytes) = called(act);
         if let Some(left) = torn {
-            self.nodes[i].call_torn(clock, place, call, left)?;
+            node.call_torn(clock, place, call, left)?;
             return Ok(print::word(out, "stopped")?);
         }
-        let outcome = self.nodes[i].call(clock, place, call)?;
-        match call {
-            Call::Show => match outcome.answer {
-                Ok(()) => print::shown(out, self.nodes[i].copy(place), &ZEROS)?,
-                Err(refusal) => print::not_shown(out, refusal, &ZEROS)?,
-            },
-            Call::Ask(_) => self.report(outcome, &bytes, out)?,
-            Call::Write => self.report(outcome, &bytes, out)?,
-            Call::Forget => self.report(outcome, &bytes, out)?,
+        let Some(outcome) = node.call(clock, place, call)? else {
+            return Ok(print::word(out, "down")?);
+        };
+        if call != Call::Show {
+            return Ok(self.report(outcome, &bytes, out)?);
         }
-        Ok(())
+        match (outcome.answer, node.copy(place)) {
+            (Ok(()), Some(copy)) => Ok(print::shown(out, copy, &ZEROS)?),
+            (Ok(()), None) => Ok(print::word(out, "down")?),
+            (Err(refusal), _) => Ok(print::not_shown(out, refusal, &ZEROS)?),
+        }
     }
 
     // Prints what is sent, and the answer.
@@ -168,10 +153,26 @@ impl Stage {
             self.sent = self.sent.saturating_add(1);
             print::sent(out, self.sent, message, bytes)?;
         }
-        match outcome.answer {
-            Ok(()) => print::word(out, "done"),
-            Err(refusal) => refused(out, refusal),
-        }
+        answer(out, outcome.answer)
+    }
+}
+
+impl Answers for Stage {
+    // what stands between two lines is said by the contracts of the clocks and of the borrowers
+    ghost keeps = { λ s. Unit {0} };
+
+    fn answer(&mut self, line: Option<&[u8]>, out: &mut Output) -> Result<()> {
+        self.play(line.and_then(parse), out)
+    }
+}
+
+// Prints what is said of a line that is about time, or about nothing.
+fn say(said: Result<Said, Refusal>, out: &mut Output) -> Result<(), AllocError> {
+    match said {
+        Ok(Said::Nothing) => Ok(()),
+        Ok(Said::Anew) => print::word(out, "anew"),
+        Ok(Said::Done) => print::word(out, "done"),
+        Err(refusal) => refused(out, refusal),
     }
 }
 

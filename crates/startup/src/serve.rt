@@ -1,4 +1,5 @@
-ghost use Rattle.std.specs.Prelude.{OnOk};
+ghost use Rattle.std.specs.Prelude.{◌≡◌, is_ok, OnOk, if◌then◌else◌};
+ghost use Rattle.std.specs.Process.{exit_status};
 
 use anyhow::Result;
 use lines::input::{Input, Line};
@@ -38,7 +39,9 @@ pub fn serve<A: Answers>(rt: &HostRuntime, to: &mut A) -> Result<()>
 }
 
 /// How a program ends: an error is one line on standard error, behind the program's name, and status 1.
-pub fn end(rt: &HostRuntime, name: &str, done: Result<()>) -> ExitCode {
+pub fn end(rt: &HostRuntime, name: &str, done: Result<()>) -> ExitCode
+    ensures { exit_status result ≡ (if is_ok done then 0 else 1) }
+{
     match done {
         Ok(()) => ExitCode::SUCCESS,
         Err(why) => {
