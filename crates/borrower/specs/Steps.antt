@@ -98,6 +98,7 @@ passes f p = nat_lt f.ask p.ask || nat_lt f.write p.write
 abbrev pub risen : OnFile → Part
 risen f = record { ask = cond (f.ask == 0) 0 (min last_number (f.ask + 1)); write = f.write; asked = 0; hold = None }
 
+-- two parts are the same, as `==` of the code says: written out, since proofs take the numbers out of it
 abbrev pub same_kind : Kind → Kind → Bool
 same_kind Reading Reading = true
 same_kind Reading Writing = false

@@ -28,6 +28,7 @@ use Rattle.world.proofs.View.{view, stepped, part_moves}
 holds_none : (p : Part) → holds p.hold ≡ false → (k : Kind) (a : ℕ) → p.hold ≡ copy k a → ⊥
 holds_none p e k a c = both_ways (holds p.hold) e (ap holds c)
 
+-- copies that are the same are of one kind and of one time
 same_copy : (k l : Kind) (a b : ℕ) → copy k a ≡ copy l b → (k ≡ l) × (a ≡ b)
 same_copy k l a b e = let s : ◌≡◌ {A = InHand} (record { kind = k; asked = a }) (record { kind = l; asked = b }) = cc in (ap (λ (x : InHand). x.kind) s, ap (λ (x : InHand). x.asked) s)
 
