@@ -108,10 +108,7 @@ mod tests {
     }
 
     fn at(shown: u64) -> Result<Clocks, Fail> {
-        match Terms::new(100, 100, 200) {
-            Ok(terms) => Ok(Clocks::new(terms, &[shown; 5])),
-            Err(_) => Err(Fail::new("these terms fit")),
-        }
+        Ok(Clocks::new(Terms::new(100, 100, 200)?, &[shown; 5]))
     }
 
     // At 100 parts in a million a clock counts 9,998 to 10,002 in ten seconds, and 19,997 to 20,003 in twenty.

@@ -6,7 +6,7 @@ use std::error::Error;
 use std::fmt;
 
 /// How far off clocks may run, in parts of a million, and how many milliseconds a lease runs for the borrower and for the keeper.
-#[derive(Clone, Copy)]
+#[derive(Clone, Copy, Debug, PartialEq, Eq)]
 pub struct Terms {
     pub rate: u64,
     pub short: u64,

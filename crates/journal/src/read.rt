@@ -30,6 +30,7 @@ fn applied(body: &[u8]) -> Result<Option<Entry>, Malformed>
 }
 
 // What begins with a first byte 9.
+// It and `applied` stay two: what a function of both is given to make a record would need a contract longer than either.
 fn void_up_to(body: &[u8]) -> Result<Option<Entry>, Malformed>
     ensures { Stands TheKeeper 0 (9 ∷ body.now) result }
 {

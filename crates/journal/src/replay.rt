@@ -51,16 +51,16 @@ impl Error for OpenError {}
 impl From<AllocError> for OpenError {
     ghost from_gives = { λ _ e. e ≡ NoMemory };
 
-    fn from(_: AllocError) -> OpenError {
-        OpenError::NoMemory
+    fn from(_: AllocError) -> Self {
+        Self::NoMemory
     }
 }
 
 impl From<StoreError> for OpenError {
     ghost from_gives = { λ s e. e ≡ NoStore s };
 
-    fn from(why: StoreError) -> OpenError {
-        OpenError::Store(why)
+    fn from(why: StoreError) -> Self {
+        Self::Store(why)
     }
 }
 

@@ -33,8 +33,8 @@ impl Error for StoreError {}
 impl From<AllocError> for StoreError {
     ghost from_gives = { λ _ e. e ≡ NoMemory };
 
-    fn from(_: AllocError) -> StoreError {
-        StoreError::NoMemory
+    fn from(_: AllocError) -> Self {
+        Self::NoMemory
     }
 }
 

@@ -66,12 +66,8 @@ fn cut_everywhere(
     let before = store.content().len();
     commit_record(store, record, &[7; 1024])?;
     let bytes = store.content();
-    for n in before..bytes.len() {
-        if end(owner, &bytes[0..n]) != Some(before) {
-            return Ok(false);
-        }
-    }
-    Ok(end(owner, bytes) == Some(bytes.len()))
+    let is_cut = (before..bytes.len()).all(|n| end(owner, &bytes[0..n]) == Some(before));
+    Ok(is_cut && end(owner, bytes) == Some(bytes.len()))
 }
 
 #[test]
@@ -182,7 +178,7 @@ fn a_bad_record_of_a_borrowers_is_refused(rt: HostRuntime) -> Result<(), Fail> {
 }
 
 // Records as they come: each number one above the one before, and the bytes of a part all the same.
-#[derive(Clone, Copy)]
+#[derive(Clone, Copy, Debug, PartialEq, Eq)]
 struct Seen {
     next: u32,
     parts: u32,

@@ -48,24 +48,6 @@ impl<S: Store> Session<S> {
         Ok(())
     }
 
-    // A line comes: what the keeper sends and answers is printed.
-    fn hear(&mut self, line: &[u8], out: &mut Output) -> Result<()>
-        ensures { OnOk result (Settled self.old.keeper (S.disk self.old.store) → Settled self.new.keeper (S.disk self.new.store)) }
-    {
-        // One byte more than the longest message has, so that no longer one is taken for a message.
-        let mut buffer = [0; 1034];
-        let Some(heard) = parse(line, &mut buffer) else {
-            return Ok(refused(out, Refusal::Malformed)?);
-        };
-        if let Err(refusal) = self.read_clock(heard.clock) {
-            return Ok(refused(out, refusal)?);
-        }
-        match heard.size {
-            None => Ok(out.text("done\n")?),
-            Some(size) => self.serve(heard.clock, &buffer[0..size.min(1034)], out),
-        }
-    }
-
     // A message comes.
     fn serve(&mut self, clock: u64, message: &[u8], out: &mut Output) -> Result<()>
         ensures { OnOk result (Settled self.old.keeper (S.disk self.old.store) → Settled self.new.keeper (S.disk self.new.store)) }
@@ -80,10 +62,19 @@ impl<S: Store> Answers for Session<S> {
 
     ghost keeps = { λ s. Settled s.keeper (S.disk s.store) };
 
-    fn answer(&mut self, line: Option<&[u8]>, out: &mut Output) -> Result<()> {
-        match line {
-            Some(line) => self.hear(line, out),
-            None => Ok(refused(out, Refusal::Malformed)?),
+    // What the keeper sends and answers is printed.
+    fn answer(&mut self, line: &[u8], out: &mut Output) -> Result<()> {
+        // One byte more than the longest message has, so that no longer one is taken for a message.
+        let mut buffer = [0; 1034];
+        let Some(heard) = parse(line, &mut buffer) else {
+            return Ok(refused(out, Refusal::Malformed)?);
+        };
+        if let Err(refusal) = self.read_clock(heard.clock) {
+            return Ok(refused(out, refusal)?);
+        }
+        match heard.size {
+            None => Ok(out.text("done\n")?),
+            Some(size) => self.serve(heard.clock, &buffer[0..size.min(1034)], out),
         }
     }
 }

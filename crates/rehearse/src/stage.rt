@@ -161,8 +161,8 @@ impl Answers for Stage {
     // what stands between two lines is said by the contracts of the clocks and of the borrowers
     ghost keeps = { λ s. Unit {0} };
 
-    fn answer(&mut self, line: Option<&[u8]>, out: &mut Output) -> Result<()> {
-        self.play(line.and_then(parse), out)
+    fn answer(&mut self, line: &[u8], out: &mut Output) -> Result<()> {
+        self.play(parse(line), out)
     }
 }
 

@@ -1,9 +1,11 @@
 ghost use Rattle.std.specs.Prelude.{◌≡◌, is_ok, OnOk, if◌then◌else◌};
 ghost use Rattle.std.specs.Process.{exit_status};
 
+use crate::print::refused;
 use anyhow::Result;
 use lines::input::{Input, Line};
 use lines::output::Output;
+use message::refusal::Refusal;
 use std::io::Write;
 use std::process::ExitCode;
 
@@ -12,12 +14,13 @@ pub trait Answers {
     // what it keeps from one line to the next, if it had it before the first
     ghost keeps: { Self → Type 0 };
 
-    /// A line comes: what it says is done, and the answer is printed. None is a line that the end of the input cut short.
-    fn answer(&mut self, line: Option<&[u8]>, out: &mut Output) -> Result<()>
+    /// A line comes: what it says is done, and the answer is printed.
+    fn answer(&mut self, line: &[u8], out: &mut Output) -> Result<()>
         ensures { OnOk result (keeps self.old → keeps self.new) };
 }
 
-/// Hands on each line of standard input, and writes out what was printed before the next one is read.
+/// Hands on each line of standard input, and writes out what was printed before the next one is read. A line that the end
+/// of the input cut short is refused.
 pub fn serve<A: Answers>(rt: &HostRuntime, to: &mut A) -> Result<()>
     ensures { OnOk result (A.keeps to.old → A.keeps to.new) }
 {
@@ -28,8 +31,8 @@ pub fn serve<A: Answers>(rt: &HostRuntime, to: &mut A) -> Result<()>
     // A count stays: an input need have no end, and 2^64 lines are more than any has.
     for _ in 0..u64::MAX {
         match input.next_line(&mut stdin)? {
-            Some(Line::Whole) => to.answer(Some(input.line()), &mut out)?,
-            Some(Line::Cut) => to.answer(None, &mut out)?,
+            Some(Line::Whole) => to.answer(input.line(), &mut out)?,
+            Some(Line::Cut) => refused(&mut out, Refusal::Malformed)?,
             None => break,
         }
         stdout.write_all(out.as_slice())?;

@@ -30,23 +30,6 @@ impl<S: Store> Session<S> {
         }
     }
 
-    // A line comes: what the tablet sends, shows, is told and answers is printed.
-    fn hear(&mut self, line: &[u8], out: &mut Output) -> Result<()> {
-        let mut buffer = [0; ROOM];
-        let Some(said) = parse(line, &mut buffer) else {
-            return Ok(refused(out, Refusal::Malformed)?);
-        };
-        if said.clock < self.last {
-            return Ok(refused(out, Refusal::Malformed)?);
-        }
-        self.last = said.clock;
-        match said.act {
-            Act::Reading => Ok(out.text("done\n")?),
-            Act::Message(size) => self.receive(&buffer[0..size.min(ROOM)], out),
-            Act::Call(call, place) => self.call(said.clock, call, place, &buffer, out),
-        }
-    }
-
     // A message comes.
     fn receive(&mut self, message: &[u8], out: &mut Output) -> Result<()> {
         let outcome = self.tablet.hear(&mut self.store, message)?;
@@ -75,10 +58,18 @@ impl<S: Store> Answers for Session<S> {
     // what a tablet keeps from one line to the next is said by its own contracts
     ghost keeps = { λ s. Unit {0} };
 
-    fn answer(&mut self, line: Option<&[u8]>, out: &mut Output) -> Result<()> {
-        match line {
-            Some(line) => self.hear(line, out),
-            None => Ok(refused(out, Refusal::Malformed)?),
+    // What the tablet sends, shows, is told and answers is printed.
+    fn answer(&mut self, line: &[u8], out: &mut Output) -> Result<()> {
+        let mut buffer = [0; ROOM];
+        let said = match parse(line, &mut buffer) {
+            Some(said) if said.clock >= self.last => said,
+            _ => return Ok(refused(out, Refusal::Malformed)?),
+        };
+        self.last = said.clock;
+        match said.act {
+            Act::Reading => Ok(out.text("done\n")?),
+            Act::Message(size) => self.receive(&buffer[0..size.min(ROOM)], out),
+            Act::Call(call, place) => self.call(said.clock, call, place, &buffer, out),
         }
     }
 }

@@ -30,6 +30,7 @@ fn put(file: &mut File, bytes: &[u8]) -> usize
     ensures { result ≤ length bytes.now }
 {
     let mut done = 0;
+    // A count stays: how often a signal comes has no bound. `write_all` would not say how many bytes the system took.
     for _ in 0..u64::MAX {
         if done == bytes.len() {
             break;

@@ -1,4 +1,4 @@
-ghost use Rattle.std.specs.Prelude.{◌≡◌, [], ◌∷◌, ◌++◌, is_ok, IfOk, IfErr, if◌then◌else◌, count_by, filter, nat_lt};
+ghost use Rattle.std.specs.Prelude.{◌≡◌, [], ◌∷◌, ◌++◌, is_ok, IfOk, IsOkUnless, if◌then◌else◌, count_by, filter, nat_lt};
 ghost use Rattle.std.specs.List.{list_any};
 ghost use Rattle.lease.specs.Leases.{running, barring, allowing, staying};
 ghost use Rattle.lease.specs.Tables.{leases, marks_of};
@@ -76,7 +76,7 @@ impl Table {
     pub fn grant(&mut self, clock: u64, lease: Lease) -> Result<(), Refusal>
         ensures answer { is_ok result ≡ nat_lt (count_by (running clock) (leases self.old)) 4096 }
         ensures after { leases self.new ≡ (if is_ok result then filter (running clock) (leases self.old) ++ lease ∷ [] else leases self.old) }
-        ensures why { IfErr result (λ e. e ≡ Refusal.Exhausted) }
+        ensures why { IsOkUnless result Refusal.Exhausted }
     {
         if self.running(clock) >= MOST {
             return Err(Refusal::Exhausted);

@@ -1,4 +1,4 @@
-ghost use Rattle.std.specs.Prelude.{◌≡◌, ℕ, ◌+◌, ◌^◌, List, is_ok, IfOk, IfErr, if◌then◌else◌, OnOk, nat_lt};
+ghost use Rattle.std.specs.Prelude.{◌≡◌, ℕ, ◌+◌, ◌^◌, List, is_ok, IfOk, IsOkUnless, if◌then◌else◌, OnOk, nat_lt};
 ghost use Rattle.message.specs.Reading.{read};
 ghost use Rattle.journal.specs.Logs.{Logged};
 ghost use Rattle.lender.specs.Book.{keeper_book, keeper_parts};
@@ -28,7 +28,7 @@ impl Keeper {
     /// Comes up: no leases, and a grace period; refused, and nothing changes, where that would pass 64 bits.
     pub fn come_up(&mut self, clock: u64) -> Result<(), Refusal>
         ensures answer { is_ok result ≡ nat_lt (clock + (keeper_book self.old).long) (2 ^ 64) }
-        ensures why { IfErr result (λ e. e ≡ Refusal.Exhausted) }
+        ensures why { IsOkUnless result Refusal.Exhausted }
         ensures book { keeper_book self.new ≡ (if is_ok result then risen clock (keeper_book self.old) else keeper_book self.old) }
         ensures parts { keeper_parts self.new ≡ keeper_parts self.old }
         ensures disk { (file : List ℕ) → OnDisk self.old file → OnDisk self.new file }

@@ -1,4 +1,4 @@
-ghost use Rattle.std.specs.Prelude.{◌≡◌, ◌+◌, ◌^◌, is_ok, IfOk, IfErr, if◌then◌else◌, nat_lt};
+ghost use Rattle.std.specs.Prelude.{◌≡◌, ◌+◌, ◌^◌, is_ok, IfOk, IsOkUnless, if◌then◌else◌, nat_lt};
 ghost use Rattle.lender.specs.Book.{book};
 ghost use Rattle.lender.specs.Rules.{fresh, risen};
 
@@ -24,7 +24,7 @@ impl Lender {
     /// Comes up: no leases, and a grace period; refused, and nothing changes, where that would pass 64 bits.
     pub fn come_up(&mut self, clock: u64) -> Result<(), Refusal>
         ensures answer { is_ok result ≡ nat_lt (clock + self.old.long) (2 ^ 64) }
-        ensures why { IfErr result (λ e. e ≡ Refusal.Exhausted) }
+        ensures why { IsOkUnless result Refusal.Exhausted }
         ensures after { book self.new ≡ (if is_ok result then risen clock (book self.old) else book self.old) }
     {
         let quiet = clock.checked_add(self.long).ok_or(Refusal::Exhausted)?;

@@ -14,6 +14,8 @@ use part::head::Head;
 
 impl Lender {
     // The write of this number is applied.
+    // It and `set_void` stay two: they set another field each, and what a closure makes of the numbers would need a contract
+    // longer than both.
     pub(crate) fn set_done(&mut self, head: Head)
         ensures { book self.new ≡ applied head.who.id head.place.at head.number (book self.old) }
     {
