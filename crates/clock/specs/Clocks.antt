@@ -1,5 +1,5 @@
 -- The moments that five clocks stand for, and what letting time pass does to them.
-use Rattle.std.specs.Prelude.{◌≡◌, ℕ, ◌+◌, ◌^◌, ◌<◌, ◌≤◌, List, ◌∷◌, Ok, Err, Result, map, slice_index, slice_index_or}
+use Rattle.std.specs.Prelude.{◌≡◌, ℕ, ◌+◌, ◌^◌, ◌<◌, ◌≤◌, List, ◌∷◌, codes, Ok, Err, Result, map, slice_index, slice_index_or}
 use mathlib.Core.List.{Memᴰ}
 use Rattle.clock.specs.Envelopes.{Encloses}
 use Rattle.clock.specs.Hands.{none}
@@ -71,6 +71,12 @@ Reason time by s TimeTooHigh = 2 ^ 64 ≤ s.time + time
 Reason time by s ReadingTooHigh = (j : ℕ) × (2 ^ 64 ≤ (after (present s) (passing time by)).hand j)
 Reason time by s OffError =
     (past : List Moment) → Stands s past → Within s.terms.rate 1 (after (present s) (passing time by) ∷ present s ∷ past) → ⊥
+
+-- what is printed of it
+abbrev pub no_pass_text : NoPass → List ℕ
+no_pass_text TimeTooHigh = codes "the true time would pass 64 bits"
+no_pass_text ReadingTooHigh = codes "a reading would pass 64 bits"
+no_pass_text OffError = codes "a clock would leave its error"
 
 -- what is promised of letting time pass
 abbrev pub Outcome : (time : ℕ) (by : List ℕ) (s s' : Clocks) → Result (Unit {0}) NoPass → Type 0

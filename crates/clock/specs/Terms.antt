@@ -1,5 +1,5 @@
 -- The terms of leases: how long a lease runs for the borrower and for the keeper, and when that is safe for clocks that run off by a rate.
-use Rattle.std.specs.Prelude.{ℕ, suc, ◌+◌, ◌-◌, ◌*◌, ◌<◌, ◌≤◌, cond, Some, None, Option, nat_le, nat_lt}
+use Rattle.std.specs.Prelude.{ℕ, List, suc, ◌+◌, ◌-◌, ◌*◌, ◌<◌, ◌≤◌, cond, codes, Some, None, Option, nat_le, nat_lt}
 use Rattle.clock.specs.Moments.{million, Moment, Later, Between}
 use Rattle.clock.specs.declared.terms.Unfit.{Unfit}
 use Rattle.clock.specs.declared.terms.Unfit.TheVariants.{RateTooHigh, ShortTooShort, LongTooLong, TooClose}
@@ -23,6 +23,13 @@ verdict rate short long =
     (cond (nat_lt short 1) (Some ShortTooShort)
     (cond (nat_lt 3600000 long) (Some LongTooLong)
     (cond (nat_le (short_reach rate short) (long_reach rate long)) None (Some TooClose))))
+
+-- what is printed of the condition that fails
+abbrev pub unfit_text : Unfit → List ℕ
+unfit_text RateTooHigh = codes "RATE is above 10000"
+unfit_text ShortTooShort = codes "SHORT is below 1"
+unfit_text LongTooLong = codes "LONG is above 3600000"
+unfit_text TooClose = codes "LONG is too close to SHORT: (SHORT + 1)(1000000 + RATE) + 2000000 is above (LONG - 1)(1000000 - RATE)"
 
 -- where a borrower's clock has gone on by less than short, the keeper's has gone on by less than long
 abbrev pub Covers : (short long : ℕ) (o n : Moment) → Type 0

@@ -1,6 +1,6 @@
 // The true time and five clocks, which go on only as far as they keep within their error.
-ghost use Rattle.std.specs.Prelude.{◌≡◌, suc, ◌<◌, ◌≤◌, [], MatchOption};
-ghost use Rattle.clock.specs.Clocks.{Outcome, Stands, moment, present};
+ghost use Rattle.std.specs.Prelude.{◌≡◌, suc, ◌<◌, ◌≤◌, [], MatchOption, Some};
+ghost use Rattle.clock.specs.Clocks.{Outcome, Stands, moment, no_pass_text, present};
 
 use crate::hand::Hand;
 use crate::terms::Terms;
@@ -27,6 +27,8 @@ pub enum NoPass {
 }
 
 impl fmt::Display for NoPass {
+    ghost output = { λ why. Some (no_pass_text why) };
+
     fn fmt<W: fmt::Write>(&self, f: &mut fmt::Formatter<W>) -> fmt::Result {
         f.write_str(match self {
             NoPass::TimeTooHigh => "the true time would pass 64 bits",

@@ -1,6 +1,6 @@
 // The terms of leases, made only where they fit together.
 ghost use Rattle.std.specs.Prelude.{◌≡◌, ◌≤◌, true, is_ok, IfOk, Some, None, MatchResult, nat_le};
-ghost use Rattle.clock.specs.Terms.{Fits, TermsSafe, long_reach, short_reach, verdict};
+ghost use Rattle.clock.specs.Terms.{Fits, TermsSafe, long_reach, short_reach, unfit_text, verdict};
 
 use std::error::Error;
 use std::fmt;
@@ -24,6 +24,8 @@ pub enum Unfit {
 }
 
 impl fmt::Display for Unfit {
+    ghost output = { λ unfit. Some (unfit_text unfit) };
+
     fn fmt<W: fmt::Write>(&self, f: &mut fmt::Formatter<W>) -> fmt::Result {
         f.write_str(match self {
             Unfit::RateTooHigh => "RATE is above 10000",

@@ -1,8 +1,8 @@
 -- What the digits of a hexadecimal text stand for.
 -- Assumes nothing.
-use Rattle.std.proofs.Common.{◌≡◌, ℕ, zero, suc, ◌+◌, ◌-◌, ◌*◌, ◌/◌, ◌%◌, ◌<◌, ◌≤◌, min, true, ◌&&◌, ltb, leb, List, [], ◌∷◌, ◌++◌, length, get_or, take, drop, set, is_some, Some, Option, unwrap_or, sym, refl, ap, ◌∙◌, inl, inr, arith}
-use Rattle.std.proofs.lemmas.List.{at_drop_more, drop_more, take_more, set_at, take_all, drop_all, length-take-le, append_assoc}
-use Rattle.std.proofs.lemmas.Bool.{cond_both, cond-true, cond-false, cases_lt, leb-true, le-leb, lt-leb, ltb-true, ltb-false, lt-ltb, eq-eqb, and_parts, and_from, and_right}
+use Rattle.std.proofs.Common.{◌≡◌, ℕ, suc, ◌+◌, ◌-◌, ◌*◌, ◌/◌, ◌%◌, ◌<◌, ◌≤◌, true, ◌&&◌, ltb, leb, List, [], ◌∷◌, ◌++◌, length, get_or, take, drop, set, is_some, Some, Option, unwrap_or, sym, refl, ap, ◌∙◌, arith}
+use Rattle.std.proofs.lemmas.List.{at_drop_more, drop_more, take_more_set, drop-set-lt, take_rest, append_assoc}
+use Rattle.std.proofs.lemmas.Bool.{cond_both, cond-true, cond-false, leb-true, le-leb, lt-leb, ltb-true, ltb-false, lt-ltb, eq-eqb, and_parts, and_from, and_right}
 use Rattle.lines.specs.Hex.{hex_digit, hex_value, all_hex, is_hex, hex_bytes, fronted, hex_letter, hex_text}
 
 between_true : (a b n : ℕ) → (leb a n && leb n b) ≡ true → n ≤ b
@@ -23,36 +23,26 @@ length_bytes [] = refl
 length_bytes (h ∷ []) = refl
 length_bytes (h ∷ l ∷ text) = omega (arith, length_bytes text)
 
-pub byte_at : (text : List ℕ) (i : ℕ) → 2 * i + 1 < length text
-    → get_or (hex_bytes text) i 0 ≡ hex_value (get_or text (2 * i) 0) * 16 + hex_value (get_or text (2 * i + 1) 0)
-byte_at [] i lt = absurd (omega arith)
-byte_at (h ∷ []) i lt = absurd (omega arith)
-byte_at (h ∷ l ∷ text) zero lt = refl
-byte_at (h ∷ l ∷ text) (suc i) lt =
-    let a : 2 * suc i ≡ suc (suc (2 * i)) = omega arith in
-    let b : suc (suc (2 * i)) + 1 ≡ suc (suc (2 * i + 1)) = omega arith in
-    rw (a, b) (byte_at text i (omega arith))
+-- the first i places have their bytes, and the others take those of the digits left
+abbrev pub put_on : (out : List ℕ) (i : ℕ) (text : List ℕ) → List ℕ
+put_on out i text = take i out ++ fronted (hex_bytes text) (drop i out)
 
--- one byte more of the front is written
-pub front_step : (bytes out : List ℕ) (i v : ℕ) → i < length bytes → i < length out → v ≡ get_or bytes i 0
-    → set (take i bytes ++ drop i out) i v ≡ take (i + 1) bytes ++ drop (i + 1) out
-front_step bytes out i v h k e =
-    ap (λ (q : List ℕ). set (take i bytes ++ q) i v) (drop_more out i 0 k)
-    ∙ set_at (take i bytes) (get_or out i 0) (drop (i + 1) out) v i (length-take-le i bytes (omega arith))
-    ∙ sym (append_assoc (take i bytes) (v ∷ []) (drop (i + 1) out))
-    ∙ ap (λ (q : List ℕ). q ++ drop (i + 1) out) (ap (λ (x : ℕ). take i bytes ++ x ∷ []) e ∙ sym (take_more bytes i 0 h))
+-- two digits and those behind them
+pub two_first : (text : List ℕ) → 2 ≤ length text → text ≡ get_or text 0 0 ∷ get_or text 1 0 ∷ take (length text - 2) (drop 2 text)
+two_first [] le = absurd (omega arith)
+two_first (h ∷ []) le = absurd (omega arith)
+two_first (h ∷ l ∷ text) le = ap (λ (q : List ℕ). h ∷ l ∷ q) (sym (take_rest (h ∷ l ∷ text) 2))
 
--- the front is written when all bytes are, or all of out is
-pub front_done : (bytes out : List ℕ) (n : ℕ) → n ≡ min (length out) (length bytes) → take n bytes ++ drop n out ≡ fronted bytes out
-front_done bytes out n e =
-    elim (cases_lt (length out) (length bytes)) [
-      | inl h ↦
-          let o : n ≡ length out = omega arith in
-          rw (o, drop_all (length out) out (omega arith), drop_all (length bytes) out (omega arith))
-      | inr h ↦
-          let o : n ≡ length bytes = omega arith in
-          rw (o, take_all (length bytes) bytes (omega arith), take_all (length out) bytes (omega arith))
-    ]
+-- one byte more is written
+pub put_step : (out : List ℕ) (i h l v : ℕ) (left more : List ℕ) → i < length out → left ≡ h ∷ l ∷ more → v ≡ hex_value h * 16 + hex_value l
+    → put_on (set out i v) (i + 1) more ≡ put_on out i left
+put_step out i h l v left more lt e f =
+    ap (λ (front : List ℕ). front ++ fronted (hex_bytes more) (drop (i + 1) (set out i v))) (take_more_set out i v lt)
+    ∙ ap (λ (os : List ℕ). (take i out ++ v ∷ []) ++ fronted (hex_bytes more) os) (drop-set-lt (i + 1) out i v (omega arith))
+    ∙ append_assoc (take i out) (v ∷ []) (fronted (hex_bytes more) (drop (i + 1) out))
+    ∙ ap (λ (x : ℕ). take i out ++ x ∷ fronted (hex_bytes more) (drop (i + 1) out)) f
+    ∙ sym (ap (λ (os : List ℕ). take i out ++ fronted (hex_bytes (h ∷ l ∷ more)) os) (drop_more out i 0 lt))
+    ∙ ap (put_on out i) (sym e)
 
 -- two more digits are appended
 pub text_step : (was mid out bytes : List ℕ) (i h l : ℕ) → i < length bytes → h ≡ hex_letter (get_or bytes i 0 / 16)

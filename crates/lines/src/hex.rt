@@ -41,10 +41,13 @@ pub fn is_hex(text: &[u8]) -> bool
 fn put(text: &[u8], out: &mut [u8])
     ensures { out.new ≡ fronted (hex_bytes text.now) out.old }
 {
-    let count = out.len().min(text.len() / 2);
-    // The index stays: of what is written through `out.iter_mut().zip(..)` a proof knows nothing afterwards.
-    for i in 0..count {
-        out[i] = value(text[2 * i]) * 16 + value(text[2 * i + 1]);
+    let mut rest = text;
+    for slot in out.iter_mut() {
+        let [high, low, more @ ..] = rest else {
+            return;
+        };
+        *slot = value(*high) * 16 + value(*low);
+        rest = more;
     }
 }
 

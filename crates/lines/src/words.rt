@@ -25,6 +25,7 @@ pub fn split(text: &[u8]) -> (&[u8], Option<&[u8]>)
 }
 
 /// The word is this text.
+// It stays: `==` takes two slices, so that each caller would write `word == b"..".as_slice()`.
 pub fn is(word: &[u8], text: &[u8]) -> bool
     ensures { result ≡ bytes_eq word.now text.now }
 {

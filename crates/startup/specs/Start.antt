@@ -1,13 +1,18 @@
 -- Why a program does not start, by the numbers that its arguments stand for.
 -- Assumes nothing.
-use Rattle.std.specs.Prelude.{ℕ, Some, None, Option}
+use Rattle.std.specs.Prelude.{ℕ, List, codes, Some, None, Option}
 use Rattle.clock.specs.declared.terms.Unfit.{Unfit as Reason}
-use Rattle.clock.specs.Terms.{verdict}
+use Rattle.clock.specs.Terms.{unfit_text, verdict}
 use Rattle.startup.specs.declared.NoStart.{NoStart}
 use Rattle.startup.specs.declared.NoStart.TheVariants.{NoNumber, Unfit}
 
 abbrev pub unfit_start : Reason → NoStart
 unfit_start u = Unfit u
+
+-- what is printed of it
+abbrev pub no_start_text : NoStart → List ℕ
+no_start_text NoNumber = codes "RATE, SHORT and LONG are numbers, decimal digits only"
+no_start_text (Unfit u) = unfit_text u
 
 abbrev pub verdict_of : Option Reason → Option NoStart
 verdict_of None = None

@@ -3,7 +3,7 @@
 
 ghost use Rattle.std.specs.Prelude.{◌≡◌, Some, MatchResult};
 ghost use Rattle.lines.specs.Decimals.{number_of};
-ghost use Rattle.startup.specs.Start.{unfit_start, why};
+ghost use Rattle.startup.specs.Start.{no_start_text, unfit_start, why};
 
 use clock::terms::{Terms, Unfit};
 use lines::decimal::number;
@@ -24,6 +24,8 @@ pub enum NoStart {
 
 // One line for whoever started the program.
 impl fmt::Display for NoStart {
+    ghost output = { λ start. Some (no_start_text start) };
+
     fn fmt<W: fmt::Write>(&self, f: &mut fmt::Formatter<W>) -> fmt::Result {
         match self {
             NoStart::NoNumber => f.write_str(

@@ -93,10 +93,13 @@ impl Input {
     fn fill<R: Read>(&mut self, from: &mut R) -> io::Result<usize>
         ensures { IfOk result (λ n. (got : List ℕ) × (length got ≡ n) × (rest self.new ≡ rest self.old ++ got)) }
     {
-        compact(&mut self.held, self.next);
-        self.first = 0;
-        self.last = 0;
-        self.next = 0;
+        // Where nothing was handed out since the last block, as within a long line, nothing moves.
+        if self.next > 0 {
+            compact(&mut self.held, self.next);
+            self.first = 0;
+            self.last = 0;
+            self.next = 0;
+        }
         let count = from.read(self.block.as_mut_slice())?;
         self.held.extend_from_slice(&self.block[..count])?;
         Ok(count)

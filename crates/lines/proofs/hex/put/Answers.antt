@@ -1,15 +1,10 @@
-use Rattle.std.proofs.Common.{ℕ, ◌+◌, ◌*◌, List, set, sym, ap, ◌∙◌, arith}
-use Rattle.lines.specs.Hex.{hex_bytes}
-use Rattle.lines.proofs.HexTexts.{length_bytes, byte_at, front_step, front_done}
+use Rattle.std.proofs.Common.{◌≡◌, ◌+◌, ◌*◌, get_or, ◌∙◌, arith}
+use Rattle.lines.specs.Hex.{hex_value}
+use Rattle.lines.proofs.HexTexts.{put_step, two_first}
 use Rattle.lines.proofs.hex.put.Goals as goal
 
-pub loop-i-preserved : goal.loop-i-preserved
-loop-i-preserved c =
-    let i : ℕ = c.loop-i.i in
-    let bytes : List ℕ = hex_bytes c.args.text.now in
-    ap (λ (xs : List ℕ). set xs i (c.value.result * 16 + c.value-in-loop-i.result)) c.loop-i.invariant
-    ∙ front_step bytes c.args.out.now i _ (omega (arith, length_bytes c.args.text.now)) (omega arith) (cc (c.value.ensures.is, c.value-in-loop-i.ensures.is) ∙ sym (byte_at c.args.text.now i (omega arith)))
-
-pub returns : goal.returns
-returns c =
-    c.loop-i.invariant ∙ front_done (hex_bytes c.args.text.now) c.args.out.now c.loop-i.i (omega (arith, length_bytes c.args.text.now))
+pub loop-slot-preserved : goal.loop-slot-preserved
+loop-slot-preserved c =
+    let is : c.value.result * 16 + c.value-in-loop-slot.result ≡ hex_value (get_or c.loop-slot.rest.now 0 0) * 16 + hex_value (get_or c.loop-slot.rest.now 1 0) = cc in
+    put_step c.loop-slot.out c.loop-slot.slot-index _ _ _ c.loop-slot.rest.now _ (omega arith) (two_first c.loop-slot.rest.now c.in-len2-up.len_at_least) is
+    ∙ c.loop-slot.invariant

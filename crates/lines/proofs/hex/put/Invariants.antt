@@ -1,6 +1,7 @@
-use Rattle.std.proofs.Common.{◌≡◌, ◌++◌, take, drop}
-use Rattle.lines.specs.Hex.{hex_bytes}
+use Rattle.std.proofs.Common.{◌≡◌}
+use Rattle.lines.specs.Hex.{hex_bytes, fronted}
+use Rattle.lines.proofs.HexTexts.{put_on}
 use Rattle.lines.proofs.hex.put.Given as goal
 
-abbrev pub invariant-loop-i : goal.invariant-loop-i
-invariant-loop-i l = l.out ≡ take l.i (hex_bytes l.text) ++ drop l.i l.initial.out
+abbrev pub invariant-loop-slot : goal.invariant-loop-slot
+invariant-loop-slot l = put_on l.out l.slot-index l.rest ≡ fronted (hex_bytes l.text) l.initial.out
