@@ -92,6 +92,16 @@ def together(texts):
             yield f"{len(names)} times {both[0]}, {both[1]}"
 
 
+def mixed(texts):
+    """Enums, but for those of errors, in which a value says that there is nothing, or that something is refused."""
+    for name, text in texts.items():
+        for found in re.finditer(r"enum (\w+)(?:<\w+>)? \{(.*?)\n\}", text, re.S):
+            if found.group(1) not in ("Refusal", "OpenError", "StoreError", "Unfit", "NoPass", "NoStart") and re.search(
+                r"^    (Nothing|Torn|Malformed|End|Refused|Quiet|Blank|Reading)\b[,(]|NoMemory,", found.group(2), re.M
+            ):
+                yield f"{name}: {found.group(1)}"
+
+
 def arrays(texts):
     """Structs with two lists beside each other."""
     for name, text in texts.items():
@@ -107,7 +117,7 @@ POINTS = [
     ("1 a bool that says whether it was done", lambda t: lines(t, r"fn (put|put_number|pass|grant|come_up|fill|take_line|fails)\(.*\) -> bool")),
     ("1 a function that gives a 0 for nothing", lambda t: pairs(t, r"^\{$", r"^\s+0$")),
     ("1 a number for a kind or a refusal", lambda t: lines(t, r"Ask\(u8\)|fn (judged|served|asked|refusal)\b.*-> u8|^\) -> u8 \{$")),
-    ("1 enums of one's own that have an error or nothing among their values", lambda t: pairs(t, r"pub enum (Hold|Next|Said|Line|AskAnswer|WriteAnswer|NoKeeper|NoTablet) \{", r".")),
+    ("1 enums that have nothing or a refusal among other values", mixed),
     ("1 a flag with a value beside it", lambda t: lines(t, r"^\s*pub up: bool,")),
     ("2 functions that differ in names and numbers only", twins),
     ("2 twin types and functions found by reading", lambda t: lines(t, r"enum (NoKeeper|NoTablet) |fn (serve|play)\(rt: &HostRuntime|fn (done_of|void_of|keyed_number|keyed_node|on_in|on_void|ahead_by|behind_by)\(")),

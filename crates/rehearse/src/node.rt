@@ -73,10 +73,7 @@ impl Node {
 
     /// The copy of a part.
     pub fn copy(&self, place: Place) -> Option<&[u8; 1024]> {
-        match &self.tablet {
-            Some(tablet) => Some(tablet.copy(place)),
-            None => None,
-        }
+        self.tablet.as_ref().map(|tablet| tablet.copy(place))
     }
 }
 

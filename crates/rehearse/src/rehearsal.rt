@@ -9,6 +9,7 @@ use part::place::Place;
 use script::step::Step;
 
 /// What is printed of a line that is done.
+// Nothing is one of three here, and not a missing value: an option of two would say the same in more words.
 #[derive(Clone, Copy, Debug, PartialEq, Eq)]
 pub enum Said {
     Nothing,
@@ -58,6 +59,7 @@ impl Rehearsal {
         ensures { Ticked self.old self.new time by.now result }
     {
         self.begun = true;
+        // A match stays: by `?` the refusal would need a conversion from why time does not pass, of one use.
         match self.clocks.pass(time, by) {
             Ok(()) => Ok(Said::Done),
             Err(_) => Err(Refusal::Malformed),
@@ -68,10 +70,7 @@ impl Rehearsal {
     pub fn play(&mut self, step: Option<Step<Place>>) -> Result<Said, Refusal>
         ensures { Played self.old self.new step result }
     {
-        let Some(step) = step else {
-            return Err(Refusal::Malformed);
-        };
-        match step {
+        match step.ok_or(Refusal::Malformed)? {
             Step::Blank => Ok(Said::Nothing),
             Step::Set { keeper, borrowers } => self.set(keeper, borrowers),
             Step::Anew => self.anew(),

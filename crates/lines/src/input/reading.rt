@@ -63,6 +63,7 @@ impl Input {
     }
 
     // Hands out the next line, where its end was read already. The first bytes are known to hold no newline.
+    // A `bool` stays: there is a line or none, and `line` gives it.
     fn take_line(&mut self, seen: usize) -> bool
         requires within { seen ≤ length (rest self.old) }
         requires clean { behind 10 (take seen (rest self.old)) ≡ None }
@@ -123,6 +124,7 @@ impl Input {
         ensures { IfOk result (λ l. (got : List ℕ) × Handed l (rest self.old ++ got) (line_of self.new) (rest self.new)) }
     {
         let mut seen = 0;
+        // A count stays: how many blocks come before a newline does has no bound.
         for _ in 0..u64::MAX {
             if self.take_line(seen) {
                 return Ok(Some(Line::Whole));
