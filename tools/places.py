@@ -97,7 +97,7 @@ def mixed(texts):
     for name, text in texts.items():
         for found in re.finditer(r"enum (\w+)(?:<\w+>)? \{(.*?)\n\}", text, re.S):
             if found.group(1) not in ("Refusal", "OpenError", "StoreError", "Unfit", "NoPass", "NoStart") and re.search(
-                r"^    (Nothing|Torn|Malformed|End|Refused|Quiet|Blank|Reading)\b[,(]|NoMemory,", found.group(2), re.M
+                r"^    (Nothing|Torn|Malformed|End|Refused|Quiet|Blank)\b[,(]|NoMemory,|/// nothing$", found.group(2), re.M
             ):
                 yield f"{name}: {found.group(1)}"
 

@@ -49,6 +49,7 @@ pub enum Act {
 }
 
 /// What a line of the script asks for. `P` is how a part is named.
+// `Blank` is a value here: an option would make an option of an option of what may be no line at all.
 #[derive(Clone, Copy, Debug, PartialEq, Eq)]
 pub enum Step<P> {
     /// Nothing: the line is passed over.

@@ -11,6 +11,7 @@ use message::kind::Kind;
 use part::place::Place;
 
 /// What a line asks for, besides its reading of the clock.
+// Nothing is a value here: an option would make an option of an option of what may be no line at all.
 #[derive(Clone, Copy, Debug, PartialEq, Eq)]
 pub enum Act {
     /// nothing
