@@ -1,9 +1,8 @@
 -- What the readers show: of one first byte each, at a place, and of a whole journal.
 -- Assumes nothing.
-use Rattle.std.proofs.Common.{◌≡◌, ℕ, ◌+◌, ◌-◌, ◌*◌, ◌/◌, ◌%◌, ◌<◌, ◌≤◌, List, [], ◌∷◌, ◌++◌, length, get_or, take, drop, Ok, Err, Result, IsErr, Some, None, Option, sym, refl, ap, ◌∙◌, subst, arith}
+use Rattle.std.proofs.Common.{◌≡◌, ℕ, ◌+◌, ◌-◌, ◌<◌, ◌≤◌, List, [], ◌∷◌, ◌++◌, length, get_or, take, drop, Ok, Err, Result, IsErr, Some, None, Option, sym, refl, ap, ◌∙◌, subst, arith}
 use Rattle.std.proofs.lemmas.List.{length-take-le, length-drop, length-append, drop-take, drop-drop, take-append-drop, drop_at, take_rest, append-nil}
-use Rattle.part.specs.Bytes.{four, headed}
-use Rattle.part.proofs.Numbers.{peel}
+use Rattle.part.specs.Bytes.{headed}
 use Rattle.std.proofs.lemmas.Slice.{first_rest}
 use Rattle.message.specs.Format.{carried}
 use Rattle.journal.specs.declared.record.Owner.{Owner}
@@ -35,19 +34,6 @@ applied_is ys w q n l e =
     ap (λ (v : List ℕ). v ++ drop 1031 ys) (part_is ys l) ∙ ap (λ (v : List ℕ). take 1024 (drop 7 ys) ++ v) (sym (drop-drop 1024 7 ys))
     ∙ take-append-drop 1024 (drop 7 ys) in
     sym (ap (λ (v : List ℕ). 8 ∷ headed w q n v) a ∙ ap (λ (v : List ℕ). 8 ∷ v) e)
-
-pub numbers_is : (ys : List ℕ) (q a w : ℕ) → 10 ≤ length ys → q ≡ 256 * get_or ys 0 0 + get_or ys 1 0 → get_or ys 1 0 < 256
-    → take 4 (drop 2 ys) ≡ four a → take 4 (drop 6 ys) ≡ four w
-    → 10 ∷ ys ≡ 10 ∷ (q / 256) ∷ (q % 256) ∷ ((four a ++ four w) ++ drop 10 ys)
-numbers_is ys q a w l e b f g =
-    let p : q / 256 ≡ get_or ys 0 0 = omega arith in
-    let r : q % 256 ≡ get_or ys 1 0 = omega arith in
-    let s : four w ++ drop 10 ys ≡ drop 6 ys =
-    ap (λ (v : List ℕ). v ++ drop 10 ys) (sym g) ∙ ap (λ (v : List ℕ). take 4 (drop 6 ys) ++ v) (sym (drop-drop 4 6 ys)) ∙ take-append-drop 4 (drop 6 ys) in
-    let t : four a ++ drop 6 ys ≡ drop 2 ys =
-    ap (λ (v : List ℕ). v ++ drop 6 ys) (sym f) ∙ ap (λ (v : List ℕ). take 4 (drop 2 ys) ++ v) (sym (drop-drop 4 2 ys)) ∙ take-append-drop 4 (drop 2 ys) in
-    let u = peel ys 0 _ (omega arith) (peel ys 1 _ (omega arith) (sym t)) in
-    rw (p, r) (ap (λ (v : List ℕ). 10 ∷ v) u ∙ ap (λ (v : List ℕ). 10 ∷ get_or ys 0 0 ∷ get_or ys 1 0 ∷ (four a ++ v)) (sym s))
 
 -- the reader of one first byte, as the bytes are cut for it
 pub from_body : (o p : Owner) (xs : List ℕ) (t : ℕ) (r : Result (Option Entry) Malformed) → o ≡ p → 0 < length xs → get_or xs 0 0 ≡ t
@@ -87,10 +73,6 @@ whole_at o bs at end r h =
       is = s.is ∙ ap (λ (m : Rec). layout m ++ drop end (drop at bs)) e ∙ ap (λ (q : List ℕ). layout (ending bs (at + end) r) ++ q) (drop-drop end at bs);
     }
 
--- the reader of the bytes from a place on, as they are cut for it
-pub from_place : (o : Owner) (bs : List ℕ) (at : ℕ) (r : Result (Option Entry) Malformed) → Stands o 0 (take (length bs - at) (drop at bs)) r → Stands o 0 (drop at bs) r
-from_place o bs at r h = let P : List ℕ → Type 0 = λ xs. Stands o 0 xs r in subst P (take_rest bs at) h
-
 -- one that passes over what is no record: a record that it gives stands there, and where it gives none there is none
 pub given : (o : Owner) (bs : List ℕ) (at : ℕ) (r : Result (Option Entry) Malformed) (e : Entry) → Stands o at bs r → Some e ≡ result_unwrap_or r None
     → Standing o at bs e.«record» e.end
@@ -107,9 +89,6 @@ passed_over o bs at (Err x) h q = h.1
 -- so far the bytes are whole records, and those ahead are the others
 abbrev pub Reached : Owner → List ℕ → ℕ → Type 0
 Reached o bs at = (at ≤ length bs) × (length (bytes_of (records_of o bs)) ≡ at + length (bytes_of (records_of o (drop at bs))))
-
-pub reached_none : (o : Owner) (bs : List ℕ) → Reached o bs 0
-reached_none o bs = (omega arith, omega arith)
 
 -- the records ahead, where one stands
 pub ahead_more : (o : Owner) (bs : List ℕ) (at end : ℕ) (r : Record) → Standing o at bs r end
@@ -148,10 +127,6 @@ reached_malformed o bs at h t k =
 pub refused_of : (o : Owner) (bs : List ℕ) (r : Result ℕ Malformed) → IsErr r → Refused o bs → Judged o bs r
 refused_of o bs (Ok n) e h = absurd (cc)
 refused_of o bs (Err x) e h = h
-
--- what follows, at the end of the records
-pub torn_rest : (o : Owner) (bs : List ℕ) (n : ℕ) → Cut o bs n → Torn o (rest_of o bs)
-torn_rest o bs n c = let P : ℕ → Type 0 = λ k. Torn o (drop k bs) in subst P c.long c.torn
 
 pub torn_is_cut : TornIsCut
 torn_is_cut o rs f t h (Ok n) c = ap Ok (c.long ∙ ap (λ (q : List Rec). length (bytes_of q)) (torn_end o rs f t h))

@@ -1,7 +1,7 @@
 -- What is on disk after each call on a store.
 -- Assumes nothing.
-use Rattle.std.proofs.Common.{◌≡◌, ℕ, ◌-◌, ◌≤◌, min, List, [], ◌∷◌, ◌++◌, length, take, Ok, Err, Result, OnOk, append-nil, sym, ap, ◌∙◌, inl, inr, arith}
-use Rattle.std.proofs.lemmas.List.{take_all, take_at, take-take, length-take}
+use Rattle.std.proofs.Common.{◌≡◌, ℕ, min, List, [], ◌∷◌, ◌++◌, length, take, Ok, Err, Result, OnOk, append-nil, sym, ap, ◌∙◌, inl, inr, arith}
+use Rattle.std.proofs.lemmas.List.{take_all, take-take, length-take}
 use Rattle.std.proofs.lemmas.Bool.{cases_lt}
 use Rattle.journal.specs.Records.{Rec, layout}
 use Rattle.journal.specs.Logs.{Logged}
@@ -23,14 +23,6 @@ take_less s n xs =
       | inr l ↦ let e : min s n ≡ n = omega arith in
           ap (λ (k : ℕ). take k (take n xs)) e ∙ take-take n n xs (omega arith) ∙ sym (take-take n s xs l)
     ]
-
--- the bytes that a writer put in front, as they are cut out
-pub front_is : (n : ℕ) (out lay rest : List ℕ) → n ≡ length lay → out ≡ lay ++ rest → take (n - 0) out ≡ lay
-front_is n out lay rest l e = ap (λ (q : List ℕ). take (n - 0) q) e ∙ take_at lay rest (n - 0) (omega arith)
-
--- all of the bytes, as they are cut out
-pub all_is : (n : ℕ) (xs : List ℕ) → length xs ≤ n → take (n - 0) xs ≡ xs
-all_is n xs l = take_all (n - 0) xs (omega arith)
 
 -- a record that was committed is logged
 pub logged_by : {T E : Type 0} (was is : Disk) (r : Rec) (res : Result T E) → Committed was (layout r) is res → OnOk res (Logged (r ∷ []) was is)

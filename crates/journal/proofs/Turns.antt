@@ -29,9 +29,6 @@ module _ {S : Type 0} (P : S → Rec → S → Type 0) (o : Owner) (bs : List �
   abbrev pub Leading : S → ℕ → S → Type 0
   Leading s at m = (at ≤ length bs) × ((t : S) → Through P m (records_of o (drop at bs)) t → Through P s (records_of o bs) t)
 
-  pub leading_none : (s : S) → Leading s 0 s
-  leading_none s = (omega arith, λ t h. h)
-
   pub leading_more : (s m n : S) (at end : ℕ) (r : Record) → Leading s at m → Standing o at bs r end → P m (ending bs end r) n → Leading s end n
   leading_more s m n at end r (l, h) k p =
       let Q : S → List Rec → Type 0 = λ t rs. Through P m rs t in

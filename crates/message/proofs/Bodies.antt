@@ -11,7 +11,7 @@ use Rattle.message.specs.declared.form.Message.{Message}
 use Rattle.message.specs.declared.form.Message.TheVariants as code
 use Rattle.message.specs.declared.kind.Kind.{Kind}
 use Rattle.message.specs.Kinds.{kind_byte, KindOf}
-use Rattle.message.specs.Format.{Msg, Ask, Loan, Write, In, Void, Recall, Back, said, carried, tag, body, WellFormed, Decoded, DecodedBody, NotOnly}
+use Rattle.message.specs.Format.{Msg, Ask, Loan, Write, In, Void, Recall, Back, said, carried, tag, body, WellFormed, Decoded, DecodedBody}
 
 -- every message but a recall begins with a head
 pub headless : (t : ℕ) (ys : List ℕ) → ((w q n : ℕ) (more : List ℕ) → Named w q n → headed w q n more ≡ ys → ⊥) → (t ≡ 6 → ⊥)
@@ -23,16 +23,6 @@ headless t ys h k (In w q n) f g e = h w q n _ f e
 headless t ys h k (Void w q n) f g e = h w q n _ f e
 headless t ys h k (Recall w q) f g e = k (sym g)
 headless t ys h k (Back w q n) f g e = h w q n _ f e
-
--- three messages are a head and nothing else
-pub not_only : (t : ℕ) (ys : List ℕ) → NotOnly ys → 4 ≤ t → (t ≡ 6 → ⊥) → (m : Msg) → WellFormed m → tag m ≡ t → body m ≡ ys → ⊥
-not_only t ys h l k (Ask w q n i v) f g e = omega arith
-not_only t ys h l k (Loan w q n i v) f g e = omega arith
-not_only t ys h l k (Write w q n v) f g e = omega arith
-not_only t ys h l k (In w q n) f g e = h w q n f e
-not_only t ys h l k (Void w q n) f g e = h w q n f e
-not_only t ys h l k (Recall w q) f g e = k (sym g)
-not_only t ys h l k (Back w q n) f g e = h w q n f e
 
 -- a kind that was made of a byte stands for it
 pub kind_is : (b : ℕ) (r : Result Kind Malformed) (k : Kind) → KindOf b r → Some k ≡ result_ok r → kind_byte k ≡ b

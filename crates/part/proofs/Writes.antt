@@ -1,11 +1,9 @@
 -- What writes at a place leave: of some bytes, and of the parts of the files.
 -- Assumes nothing.
-use Rattle.std.proofs.Common.{◌≡◌, ℕ, ◌+◌, ◌<◌, ◌≤◌, Bool, cond, eqb, get_or, leb, List, [], ◌∷◌, ◌++◌, length, drop, set, sym, refl, ap, ◌∙◌, inl, inr, add-one}
-use mathlib.Core.Path.{fun_ext}
+use Rattle.std.proofs.Common.{◌≡◌, ℕ, ◌+◌, ◌-◌, ◌<◌, ◌≤◌, Bool, cond, eqb, leb, List, [], ◌∷◌, ◌++◌, length, take, drop, set, sym, refl, ap, ◌∙◌, add-one, arith}
 use borrow.Rule.Slice.PartMut.{put_mid}
-use Rattle.std.proofs.lemmas.List.{drop_at, take_at, drop-drop, set_split, append_assoc, get_or-set_other}
-use Rattle.std.proofs.lemmas.Grind.{get_or-set_at}
-use Rattle.std.proofs.lemmas.Bool.{cases_eq, eq-eqb, ne_eqb, cond-true, cond-false, le-leb}
+use Rattle.std.proofs.lemmas.List.{drop_at, take_at, drop-drop, set_split, append_assoc}
+use Rattle.std.proofs.lemmas.Bool.{eq-eqb, cond-true, le-leb}
 use Rattle.part.specs.Bytes.{placed}
 use Rattle.part.specs.Parts.{at_1}
 
@@ -30,14 +28,9 @@ pub next : (k j : ℕ) (f out ys zs was : List ℕ) → length f ≡ k → lengt
     → out ≡ (f ++ zs) ++ drop (k + j) ys
 next k j f out ys zs was l m e o = o ∙ ap (λ (q : List ℕ). placed k zs q) e ∙ placed_on k f ys zs l ∙ rw m refl
 
--- one of some values in a row written: that is there now, and each other is as it was
-pub at_1_set : {X : Type 0} (xs : List X) (q : ℕ) (v d : X) → q < length xs
-    → (λ p. get_or (set xs q v) p d) ≡ at_1 q v (λ p. get_or xs p d)
-at_1_set xs q v d l =
-    fun_ext (λ p. elim (cases_eq p q) [
-      | inl e ↦ get_or-set_at xs q p v d e l ∙ sym (cond-true (eqb p q) v (get_or xs p d) (eq-eqb p q e))
-      | inr ne ↦ get_or-set_other xs q p v d ne ∙ sym (cond-false (eqb p q) v (get_or xs p d) (ne_eqb p q ne))
-    ])
+-- what was written in front, as it is cut out again
+pub front_is : (n : ℕ) (out lay rest : List ℕ) → n ≡ length lay → out ≡ lay ++ rest → take (n - 0) out ≡ lay
+front_is n out lay rest l e = ap (λ (q : List ℕ). take (n - 0) q) e ∙ take_at lay rest (n - 0) (omega arith)
 
 -- a write that has room is done
 pub there : {X : Type 0} (r : Bool) (m n : ℕ) (y a b : X) → r ≡ leb m n → m ≤ n → y ≡ cond r a b → y ≡ a
@@ -46,6 +39,3 @@ there r m n y a b e l h = h ∙ cond-true r a b (e ∙ le-leb m n l)
 -- a function with another value at one place, read there and elsewhere
 pub at_1_here : {X : Type 0} (q : ℕ) (v : X) (f : ℕ → X) → at_1 q v f q ≡ v
 at_1_here q v f = cond-true (eqb q q) v (f q) (eq-eqb q q refl)
-
-pub at_1_other : {X : Type 0} (q : ℕ) (v : X) (f : ℕ → X) (p : ℕ) → (p ≡ q → ⊥) → at_1 q v f p ≡ f p
-at_1_other q v f p ne = cond-false (eqb p q) v (f p) (ne_eqb p q ne)

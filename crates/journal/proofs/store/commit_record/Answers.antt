@@ -1,7 +1,7 @@
 use Rattle.std.proofs.Common.{ℕ, List, refl, subst}
 use Rattle.journal.specs.Records.{recorded, layout}
 use Rattle.journal.specs.Stores.{Committed}
-use Rattle.journal.proofs.Saves.{front_is}
+use Rattle.part.proofs.Writes.{front_is}
 use Rattle.journal.proofs.store.commit_record.Goals as goal
 
 pub returns : goal.returns

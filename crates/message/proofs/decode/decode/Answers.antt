@@ -1,4 +1,4 @@
-use Rattle.std.proofs.Common.{◌≡◌, Err, rules}
+use Rattle.std.proofs.Common.{Err, rules}
 use Rattle.message.specs.Format.{Decoded}
 use Rattle.message.proofs.Bodies.{decoded}
 use Rattle.message.proofs.Reading.{reads}

@@ -1,18 +1,15 @@
-use Rattle.std.proofs.Common.{◌≡◌, ℕ, ◌-◌, List, ◌++◌, length, take, refl, ap, ◌∙◌, subst, arith}
-use Rattle.std.proofs.lemmas.List.{take_at}
+use Rattle.std.proofs.Common.{ℕ, List, refl, subst, arith}
+use Rattle.part.proofs.Writes.{front_is}
 use Rattle.message.specs.Format.{said, layout, Decoded}
 use Rattle.message.proofs.Unique.{sized, most, exact}
 use Rattle.message.proofs.laws.again.Goals as goal
-
-front_is : (n : ℕ) (out lay rest : List ℕ) → out ≡ lay ++ rest → n ≡ length lay → take (n - 0) out ≡ lay
-front_is n out lay rest e l = ap (λ (q : List ℕ). take (n - 0) q) e ∙ take_at lay rest (n - 0) (omega arith)
 
 pub returns : goal.returns
 returns c =
     let m = said c.args.part.now c.args.message.now in
     let w = rw c.in_ok-size.ensures.ok_part at c.encode.ensures in
     let P : List ℕ → Type 0 = λ q. Decoded q c.decode.result in
-    exact m (w.formed refl) c.decode.result (subst P (front_is _ _ (layout m) _ w.wrote.1 w.wrote.0) c.decode.ensures.exact)
+    exact m (w.formed refl) c.decode.result (subst P (front_is _ _ (layout m) _ w.wrote.0 w.wrote.1) c.decode.ensures.exact)
 
 pub returns-in_err-size : goal.returns-in_err-size
 returns-in_err-size c =

@@ -2,7 +2,8 @@ use Rattle.std.proofs.Common.{ℕ, List, ◌++◌, ap, ◌∙◌}
 use Rattle.lines.specs.Hex.{hex_text}
 use Rattle.lines.specs.Outputs.{printed}
 use Rattle.message.specs.Format.{said, layout}
-use Rattle.startup.proofs.Prints.{thrice, front_is}
+use Rattle.part.proofs.Writes.{front_is}
+use Rattle.startup.proofs.Prints.{thrice}
 use Rattle.startup.proofs.print.sent.Goals as goal
 
 pub returns : goal.returns
