@@ -31,7 +31,7 @@ pub struct Asked {
     pub written: u32,
 }
 
-/// By what a copy counts as valid: what the borrower's clock reads, and for how long from the ask on a copy is valid.
+/// What tells whether a copy is valid: what the borrower's clock reads, and for how long from its ask on a copy is.
 #[derive(Clone, Copy, Debug, PartialEq, Eq)]
 pub struct Timing {
     pub clock: u64,

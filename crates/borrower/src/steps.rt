@@ -1,4 +1,4 @@
-ghost use Rattle.std.specs.Prelude.{◌≡◌, ℕ, ◌+◌, ◌^◌, cond, Some, MatchResult, nat_le, nat_lt};
+ghost use Rattle.std.specs.Prelude.{◌≡◌, ℕ, ◌+◌, ◌^◌, if◌then◌else◌, Some, MatchResult, nat_le, nat_lt};
 ghost use Rattle.borrower.specs.Steps.{stale, released, settled, asking, ask_of, showing, wrote, write_of, loan_of, recall_of, rounded, kept_of, passes, risen};
 
 use crate::hold::{Asked, Held, OnFile, Part, Timing};
@@ -63,6 +63,7 @@ impl Part {
     }
 
     /// Asks for the part.
+    // A pair stays, here and below: a part is taken and handed back by value, also where it is refused.
     pub fn ask(self, time: Timing) -> (Part, Result<Asked, Refusal>)
         ensures { result ≡ ask_of time.clock time.short (settled time.clock time.short self) }
     {
@@ -165,7 +166,7 @@ fn round_up(x: u32) -> u32
 
 // A number on file, raised where the part's passes it.
 fn raise(filed: u32, number: u32) -> u32
-    ensures { result ≡ cond (nat_le number filed) filed (rounded number) }
+    ensures { result ≡ if nat_le number filed then filed else rounded number }
 {
     if number <= filed {
         filed

@@ -30,7 +30,7 @@ fn applied(body: &[u8]) -> Result<Option<Entry>, Malformed>
 }
 
 // What begins with a first byte 9.
-// It and `applied` stay two: what a function of both is given to make a record would need a contract longer than either.
+// It and `applied` stay two: what they share, a head where so many bytes are there, would need a definition of its own.
 fn void_up_to(body: &[u8]) -> Result<Option<Entry>, Malformed>
     ensures { Stands TheKeeper 0 (9 ∷ body.now) result }
 {
@@ -52,9 +52,8 @@ fn numbers(body: &[u8]) -> Result<Option<Entry>, Malformed>
         return Ok(None);
     }
     let place = Place::new(body[0], body[1]).ok_or(Malformed)?;
-    let (Some(ask), Some(write)) = (number_at(body, 2), number_at(body, 6)) else {
-        unreachable()
-    };
+    let ask = number_at(body, 2).unwrap();
+    let write = number_at(body, 6).unwrap();
     Ok(Some(Entry {
         record: Record::Numbers { place, ask, write },
         end: 11,
@@ -99,6 +98,7 @@ pub fn next_record(owner: Owner, bytes: &[u8], at: usize) -> Result<Option<Entry
 pub fn whole(owner: Owner, bytes: &[u8]) -> Result<usize, Malformed>
     ensures { Judged owner bytes.now result }
 {
+    // The place stays: an iterator of the records would have to say of each what is left, and that is a place.
     let mut at = 0;
     while let Some(entry) = next_record(owner, bytes, at)? {
         at = entry.end;

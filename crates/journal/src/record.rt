@@ -39,6 +39,7 @@ impl Record {
 
 /// Writes the record at the front of `out`, with the bytes of `part` where a part is applied, and says how many bytes
 /// it has; where there is no room it writes nothing.
+// A size stays beside the bytes, as of a message.
 pub fn encode(record: &Record, part: &[u8; 1024], out: &mut [u8]) -> Option<usize>
     ensures formed { is_some result ≡ true → WellFormed (recorded part.now «record».now) }
     ensures wrote { Encoded (recorded part.now «record».now) out.old out.new result }

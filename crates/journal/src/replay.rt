@@ -93,7 +93,7 @@ pub fn replay<R: Journaled>(owner: Owner, bytes: &[u8], into: &mut R) -> Result<
 {
     let size = whole(owner, bytes)?;
     let mut at = 0;
-    // It was judged: what follows its whole records is torn, and no error is left to come.
+    // It goes by the place, as `whole` does. It was judged: what follows its whole records is torn, and no error is left to come.
     while let Some(entry) = next_record(owner, bytes, at).unwrap_or(None) {
         apply_ending(into, entry.record, bytes, entry.end);
         at = entry.end;

@@ -1,4 +1,4 @@
-ghost use Rattle.std.specs.Prelude.{◌≡◌};
+ghost use Rattle.std.specs.Prelude.{◌≡◌, Some, codes};
 ghost use Rattle.journal.specs.declared.store.StoreError.TheVariants.{NoMemory};
 ghost use Rattle.journal.specs.Records.{recorded, layout, WellFormed};
 ghost use Rattle.journal.specs.Stores.{Disk, Grown, Saved, Committed, Shortened};
@@ -23,6 +23,8 @@ pub enum StoreError {
 
 // Whoever started a program is told the same of both: its journal has not what it should have.
 impl fmt::Display for StoreError {
+    ghost output = { λ _. Some (codes "the journal could not be written and synced") };
+
     fn fmt<W: fmt::Write>(&self, f: &mut fmt::Formatter<W>) -> fmt::Result {
         f.write_str("the journal could not be written and synced")
     }
@@ -79,8 +81,6 @@ pub fn commit_record<S: Store>(
     ensures committed { Committed (S.disk store.old) (layout (recorded part.now «record».now)) (S.disk store.new) result }
 {
     let mut out = [0; 1032];
-    let Some(size) = encode(record, part, &mut out) else {
-        unreachable()
-    };
+    let size = encode(record, part, &mut out).unwrap();
     commit(store, &out[0..size])
 }

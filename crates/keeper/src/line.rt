@@ -7,6 +7,7 @@ use lines::hex::decode;
 use lines::words::split;
 
 /// What a line says: a reading of the clock, and how many bytes the message has that came, if one did.
+// A size stays, and the bytes are in lent memory: no step takes any.
 #[derive(Clone, Copy, Debug, PartialEq, Eq)]
 pub struct Heard {
     pub clock: u64,

@@ -8,7 +8,7 @@ use message::refusal::Refusal;
 use startup::print::refused;
 use startup::serve::Answers;
 
-/// A keeper with its journal, and what its clock read last.
+/// A keeper with its journal, whether it is up, and what its clock read last: a reading counts also where it can't come up.
 #[derive(Drop)]
 pub struct Session<S> {
     keeper: Keeper,
@@ -18,6 +18,9 @@ pub struct Session<S> {
 }
 
 impl<S: Store> Session<S> {
+    ghost use Rattle.std.specs.Prelude.{OnOk};
+    ghost use Rattle.keeper.specs.Sessions.{Settled};
+
     /// It comes up with the first line.
     pub fn new(keeper: Keeper, store: S) -> Session<S> {
         Session {
@@ -27,11 +30,6 @@ impl<S: Store> Session<S> {
             last: 0,
         }
     }
-}
-
-impl<S: Store> Session<S> {
-    ghost use Rattle.std.specs.Prelude.{OnOk};
-    ghost use Rattle.keeper.specs.Sessions.{Settled};
 
     // The clock reads this: the keeper comes up if it is not, and time never goes back.
     fn read_clock(&mut self, clock: u64) -> Result<(), Refusal>

@@ -5,6 +5,7 @@ use message::kind::Kind;
 use part::head::Head;
 
 /// A lease of a part to a borrower, under the number of the ask, that runs while the keeper's clock is below `until`.
+// Plain numbers stay, and no head: so the leases of the code are those of the rules, which know no bounds.
 #[derive(Clone, Copy, Debug, PartialEq, Eq)]
 pub struct Lease {
     pub who: u8,
@@ -15,7 +16,7 @@ pub struct Lease {
 }
 
 impl Lease {
-    ghost use Rattle.lease.specs.Leases.{running, barring, allowing, staying};
+    ghost use Rattle.lease.specs.Leases.{running, barring_ask, allowing_write, staying_after};
 
     /// It runs.
     pub fn runs(&self, clock: u64) -> bool
@@ -26,7 +27,7 @@ impl Lease {
 
     /// It stands in the way of a loan of this part, of this kind, to this borrower.
     pub fn bars(&self, clock: u64, ask: &Ask) -> bool
-        ensures { result ≡ barring clock ask.now.head.who.id ask.now.head.place.at ask.now.kind self.now }
+        ensures { result ≡ barring_ask clock ask.now self.now }
     {
         self.runs(clock)
             && self.place == ask.head.place.at
@@ -36,7 +37,7 @@ impl Lease {
 
     /// It lets this borrower write this part.
     pub fn allows(&self, clock: u64, write: &Head) -> bool
-        ensures { result ≡ allowing clock write.now.who.id write.now.place.at self.now }
+        ensures { result ≡ allowing_write clock write.now self.now }
     {
         self.runs(clock)
             && self.place == write.place.at
@@ -46,7 +47,7 @@ impl Lease {
 
     /// It is not one that this borrower gave back: of this part, for an ask up to this number.
     pub fn stays(&self, back: &Head) -> bool
-        ensures { result ≡ staying back.now.who.id back.now.place.at back.now.number self.now }
+        ensures { result ≡ staying_after back.now self.now }
     {
         self.who != back.who.id || self.place != back.place.at || self.number > back.number
     }

@@ -1,6 +1,6 @@
 -- The numbers by part and borrower after a write to one of them.
 -- Assumes nothing.
-use Rattle.std.proofs.Common.{◌≡◌, ℕ, ◌<◌, cond, List, length, get_or, set, eqb, refl, inl, inr}
+use Rattle.std.proofs.Common.{◌≡◌, ℕ, ◌<◌, List, length, get_or, set, refl, ap, ◌∙◌, inl, inr}
 use mathlib.Core.Path.{fun_ext}
 use Rattle.std.proofs.lemmas.List.{get_or-set_same, get_or-set_other}
 use Rattle.std.proofs.lemmas.Bool.{cases_eq, eq-eqb, ne_eqb}
@@ -9,39 +9,28 @@ use Rattle.lender.specs.declared.numbers.Numbers.{Numbers}
 use Rattle.lender.specs.Numbering.{no_counts, no_numbers, counts_at}
 use Rattle.lender.specs.Rules.{at_2}
 
--- f reads one of a borrower's two numbers; k has other numbers than j at the borrower i
-module _ (f : Counts → ℕ) (j k : Numbers) (i : ℕ) (c : Counts) (new : k.counts ≡ set j.counts i c) (here : counts_at k i ≡ c) where
-  pub cell_put : (w : ℕ) → f (counts_at k w) ≡ cond (eqb w i) (f c) (f (counts_at j w))
-  cell_put w =
-      elim (cases_eq w i) [
-        | inl e ↦ simp (e, here, eq-eqb i i refl)
-        | inr ne ↦ simp (new, get_or-set_other j.counts i w c no_counts ne, ne_eqb w i ne)
-      ]
-
-  pub cell_keep : f c ≡ f (counts_at j i) → (w : ℕ) → f (counts_at k w) ≡ f (counts_at j w)
-  cell_keep same w =
-      elim (cases_eq w i) [
-        | inl e ↦ simp (e, here) same
-        | inr ne ↦ simp (new, get_or-set_other j.counts i w c no_counts ne)
-      ]
-
--- the rows of all parts, of which the one at q is k now
-module _ (f : Counts → ℕ) (rows : List Numbers) (q : ℕ) (k : Numbers) (inside : q < length rows) where
-  cell : Numbers → ℕ → ℕ
-  cell x w = f (counts_at x w)
-
-  pub pair_put : (i n : ℕ) → ((w : ℕ) → f (counts_at k w) ≡ cond (eqb w i) n (f (counts_at (get_or rows q no_numbers) w)))
-      → ◌≡◌ {A = ℕ → ℕ → ℕ} (λ p w. f (counts_at (get_or (set rows q k) p no_numbers) w)) (at_2 q i n (λ p w. f (counts_at (get_or rows p no_numbers) w)))
-  pair_put i n is =
+-- f reads one of a borrower's two numbers; the part at q has these counts at the borrower i now
+module _ (f : Counts → ℕ) (rows : List Numbers) (q i : ℕ) (c : Counts) (was : Numbers) (row : was ≡ get_or rows q no_numbers)
+    (inside : q < length rows) (among : i < length was.counts) where
+  pub pair_put : ◌≡◌ {A = ℕ → ℕ → ℕ} (λ p w. f (counts_at (get_or (set rows q (record { counts = set was.counts i c })) p no_numbers) w))
+      (at_2 q i (f c) (λ p w. f (counts_at (get_or rows p no_numbers) w)))
+  pair_put =
       fun_ext (λ p. fun_ext (λ w. elim (cases_eq p q) [
-        | inl pe ↦ simp (pe, get_or-set_same rows q k no_numbers inside, eq-eqb q q refl) (is w)
-        | inr pn ↦ simp (get_or-set_other rows q p k no_numbers pn, ne_eqb p q pn)
+        | inl pe ↦ elim (cases_eq w i) [
+          | inl we ↦ simp (pe, we, get_or-set_same rows q (record { counts = set was.counts i c }) no_numbers inside, get_or-set_same was.counts i c no_counts among, eq-eqb q q refl, eq-eqb i i refl)
+          | inr wn ↦ simp (pe, get_or-set_same rows q (record { counts = set was.counts i c }) no_numbers inside, get_or-set_other was.counts i w c no_counts wn, eq-eqb q q refl, ne_eqb w i wn) (ap (λ (k : Numbers). f (counts_at k w)) row)
+        ]
+        | inr pn ↦ simp (get_or-set_other rows q p (record { counts = set was.counts i c }) no_numbers pn, ne_eqb p q pn)
       ]))
 
-  pub pair_keep : ((w : ℕ) → f (counts_at k w) ≡ f (counts_at (get_or rows q no_numbers) w))
-      → ◌≡◌ {A = ℕ → ℕ → ℕ} (λ p w. f (counts_at (get_or (set rows q k) p no_numbers) w)) (λ p w. f (counts_at (get_or rows p no_numbers) w))
-  pair_keep is =
+  pub pair_keep : f c ≡ f (counts_at was i) → ◌≡◌ {A = ℕ → ℕ → ℕ} (λ p w. f (counts_at (get_or (set rows q (record { counts = set was.counts i c })) p no_numbers) w))
+      (λ p w. f (counts_at (get_or rows p no_numbers) w))
+  pair_keep same =
       fun_ext (λ p. fun_ext (λ w. elim (cases_eq p q) [
-        | inl pe ↦ simp (pe, get_or-set_same rows q k no_numbers inside) (is w)
-        | inr pn ↦ simp (get_or-set_other rows q p k no_numbers pn)
+        | inl pe ↦ elim (cases_eq w i) [
+          | inl we ↦ simp (pe, we, get_or-set_same rows q (record { counts = set was.counts i c }) no_numbers inside, get_or-set_same was.counts i c no_counts among)
+              (same ∙ ap (λ (k : Numbers). f (counts_at k i)) row)
+          | inr wn ↦ simp (pe, get_or-set_same rows q (record { counts = set was.counts i c }) no_numbers inside, get_or-set_other was.counts i w c no_counts wn) (ap (λ (k : Numbers). f (counts_at k w)) row)
+        ]
+        | inr pn ↦ simp (get_or-set_other rows q p (record { counts = set was.counts i c }) no_numbers pn)
       ]))

@@ -1,4 +1,4 @@
-ghost use Rattle.std.specs.Prelude.{◌≡◌, slice_set};
+ghost use Rattle.std.specs.Prelude.{◌≡◌};
 ghost use Rattle.lender.specs.Numbering.{no_numbers, counts_at};
 
 use part::who::Who;
@@ -32,13 +32,5 @@ impl Numbers {
     {
         let w = who.id as usize;
         self.counts[w]
-    }
-
-    /// A borrower has these numbers from now on.
-    pub fn set(&mut self, who: Who, counts: Counts)
-        ensures whole { self.new.counts ≡ slice_set self.old.counts who.id counts }
-        ensures here { counts_at self.new who.id ≡ counts }
-    {
-        self.counts[who.id as usize] = counts;
     }
 }

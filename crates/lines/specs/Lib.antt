@@ -4,3 +4,4 @@ pub mod Hex
 pub mod Words
 pub mod Outputs
 pub mod Inputs
+pub mod Names

@@ -13,6 +13,7 @@ fn append(number: u64, digit: u8) -> Option<u64>
 
 /// The number that a text of decimal digits stands for; none where the text is empty, has any other byte,
 /// or stands for more than 64 bits hold. Zeros in front are allowed.
+// It stays beside the library's `parse`, which takes a sign; and a loop, as of `try_fold` no proof was found.
 pub fn number(word: &[u8]) -> Option<u64>
     ensures { result ≡ number_of word.now }
 {

@@ -3,6 +3,8 @@ ghost use Rattle.lines.specs.Hex.{hex_digit, hex_value, all_hex, is_hex, hex_byt
 
 use std::alloc::AllocError;
 
+// It stays beside the kit's crate `hex`, which refuses a text that has more bytes than there is room for.
+
 /// The value of a hexadecimal digit in either case, where the byte is one.
 pub fn digit(b: u8) -> Option<u8>
     ensures { result ≡ hex_digit b }
@@ -42,6 +44,7 @@ fn put(text: &[u8], out: &mut [u8])
     ensures { out.new ≡ fronted (hex_bytes text.now) out.old }
 {
     let mut rest = text;
+    // What is left is moved on by hand: of what is written through a `zip` with its pairs a proof knows nothing.
     for slot in out.iter_mut() {
         let [high, low, more @ ..] = rest else {
             return;

@@ -4,6 +4,7 @@
 pub mod decimal;
 pub mod hex;
 pub mod input;
+pub mod names;
 pub mod output;
 #[cfg(test)]
 mod tests;

@@ -6,6 +6,7 @@ use part::number::put_number;
 
 /// Writes the message at the front of `out`, with the bytes of `part` where it carries a part's, and says how many
 /// bytes it has; where there is no room it writes nothing.
+// A size stays beside the bytes, as of `Read::read`: the caller lends the memory, and no step takes any.
 pub fn encode(message: &Message, part: &[u8; 1024], out: &mut [u8]) -> Option<usize>
     ensures formed { is_some result ≡ true → WellFormed (said part.now message.now) }
     ensures wrote { Encoded (said part.now message.now) out.old out.new result }

@@ -3,6 +3,7 @@
 use Rattle.std.proofs.Common.{◌≡◌, ℕ, ◌+◌, ◌*◌, ◌/◌, ◌%◌, ◌<◌, ◌≤◌, List, [], ◌∷◌, ◌++◌, length, get_or, take, drop, sym, refl, ap, ◌∙◌, arith}
 use Rattle.std.proofs.lemmas.List.{drop_more, drop-drop, take-append-drop, get_or-take, get_or-drop}
 use Rattle.std.proofs.lemmas.Nat.{shr-shr, div-add-mod', div_below}
+use Rattle.std.proofs.Math.Nat.{mod-eq_of_lt}
 use Rattle.part.specs.Bytes.{four, headed}
 
 pub peel : (xs : List ℕ) (k : ℕ) (ys : List ℕ) → k < length xs → drop (k + 1) xs ≡ ys → drop k xs ≡ get_or xs k 0 ∷ ys
@@ -56,9 +57,6 @@ join : (n a b c d e f g : ℕ) → a * 256 + b ≡ n → c * 256 + d ≡ a → e
     → g * 16777216 + f * 65536 + d * 256 + b ≡ n
 join n a b c d e f g x y z u = omega arith
 
-small : (n : ℕ) → n < 256 → n % 256 ≡ n
-small n l = omega arith
-
 -- a number of 32 bits from its four bytes
 pub number_back : (n : ℕ) → n < 4294967296
     → n / 16777216 % 256 * 16777216 + n / 65536 % 256 * 65536 + n / 256 % 256 * 256 + n % 256 ≡ n
@@ -69,6 +67,6 @@ number_back n l =
     let y = div-add-mod' (n / 256) 256 in
     let z = div-add-mod' (n / 65536) 256 in
     let s = div_below n 16777216 256 (omega arith) l in
-    let u : n / 16777216 % 256 ≡ n / 16777216 = small _ s in
+    let u : n / 16777216 % 256 ≡ n / 16777216 = mod-eq_of_lt s in
     join n (n / 256) (n % 256) (n / 65536) (n / 256 % 256) (n / 16777216) (n / 65536 % 256) (n / 16777216 % 256) x
     (ap (λ (k : ℕ). k * 256 + n / 256 % 256) (sym p) ∙ y) (ap (λ (k : ℕ). k * 256 + n / 65536 % 256) (sym q) ∙ z) u

@@ -1,14 +1,16 @@
-ghost use Rattle.std.specs.Prelude.{◌≡◌, None};
+ghost use Rattle.std.specs.Prelude.{◌≡◌, None, is_some};
 
-use anyhow::{Context, Result};
+use anyhow::{Result, anyhow};
 use borrower::outcome::{Call, Outcome};
 use borrower::tablet::Tablet;
 use journal::record::{Record, encode};
-use journal::store::Store;
+use journal::store::commit;
 use journal::store::memory::MemoryStore;
 use part::place::Place;
 use part::who::Who;
 use std::alloc::Global;
+
+const UNWRITTEN: &str = "a journal in memory could not be written";
 
 /// A borrower with its journal in memory. It is up while it has a tablet.
 #[derive(Drop)]
@@ -34,19 +36,27 @@ impl Node {
     }
 
     /// Whether it is up.
-    pub fn is_up(&self) -> bool {
+    pub fn is_up(&self) -> bool
+        ensures { result ≡ is_some self.now.tablet }
+    {
         self.tablet.is_some()
     }
 
     /// Comes up from its journal.
     pub fn come_up(&mut self, heap: Global) -> Result<()> {
-        let tablet = Tablet::open(heap, self.who, self.short, &mut self.file)?;
+        let tablet = Tablet::open(heap, self.who, self.short, &mut self.file).map_err(|_| anyhow!(
+            "a journal in memory could not be opened"
+        ))?;
         self.tablet = Some(tablet);
         Ok(())
     }
 
     /// Stops: all but its journal is gone.
-    pub fn stop(&mut self) {
+    pub fn stop(&mut self)
+        ensures down { self.new.tablet ≡ None }
+        ensures file { self.new.file ≡ self.old.file }
+        ensures who { self.new.who ≡ self.old.who }
+    {
         self.tablet = None;
     }
 
@@ -55,7 +65,10 @@ impl Node {
         let Some(tablet) = self.tablet.as_mut() else {
             return Ok(None);
         };
-        Ok(Some(tablet.call(&mut self.file, clock, place, call)?))
+        let outcome = tablet
+            .call(&mut self.file, clock, place, call)
+            .map_err(|_| anyhow!(UNWRITTEN))?;
+        Ok(Some(outcome))
     }
 
     /// A call in the middle of which it stops: of the record only so many first bytes are left, and nothing leaves.
@@ -80,8 +93,7 @@ impl Node {
 // Appends the first bytes of a record.
 fn tear(file: &mut MemoryStore, record: Record, left: u64) -> Result<()> {
     let mut bytes = [0; 1032];
-    let size = encode(&record, &[0; 1024], &mut bytes).context("a record is too long")?;
-    let left = usize::try_from(left).unwrap_or(size);
-    file.append(&bytes[0..left.min(size).min(1032)])?;
-    Ok(file.sync()?)
+    let size = encode(&record, &[0; 1024], &mut bytes).unwrap();
+    let left = usize::try_from(left).map_or(size, |left| left.min(size));
+    commit(file, &bytes[0..left]).map_err(|_| anyhow!(UNWRITTEN))
 }

@@ -1,12 +1,13 @@
-ghost use Rattle.std.specs.Prelude.{◌≡◌, suc, ◌<◌};
+ghost use Rattle.std.specs.Prelude.{◌≡◌, suc};
 ghost use Rattle.clock.specs.Clocks.{present};
+ghost use Rattle.script.specs.Scripts.{borrower_number};
 ghost use Rattle.rehearse.specs.Played.{Started, SetTo, Ticked, Later, Played};
 
 use clock::clocks::Clocks;
 use clock::terms::Terms;
 use message::refusal::Refusal;
 use part::place::Place;
-use script::step::Step;
+use script::step::{Borrower, Step};
 
 /// What is printed of a line that is done.
 // Nothing is one of three here, and not a missing value: an option of two would say the same in more words.
@@ -59,11 +60,8 @@ impl Rehearsal {
         ensures { Ticked self.old self.new time by.now result }
     {
         self.begun = true;
-        // A match stays: by `?` the refusal would need a conversion from why time does not pass, of one use.
-        match self.clocks.pass(time, by) {
-            Ok(()) => Ok(Said::Done),
-            Err(_) => Err(Refusal::Malformed),
-        }
+        self.clocks.pass(time, by).map_err(|_| Refusal::Malformed)?;
+        Ok(Said::Done)
     }
 
     /// Plays one line; none is a line in no form.
@@ -80,10 +78,10 @@ impl Rehearsal {
     }
 
     /// What a borrower's clock reads.
-    pub fn reading(&self, who: u8) -> u64
-        ensures { who < 4 → result ≡ (present self.now.clocks).hand (suc who) }
+    pub fn reading(&self, who: Borrower) -> u64
+        ensures { result ≡ (present self.now.clocks).hand (suc (borrower_number who)) }
     {
-        self.clocks.borrower(who).unwrap_or(0)
+        self.clocks.borrower(u8::from(who)).unwrap()
     }
 
     // What is not about time.

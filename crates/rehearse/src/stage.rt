@@ -32,12 +32,7 @@ pub struct Stage {
 fn index(who: Borrower) -> usize
     ensures { result < 4 }
 {
-    match who {
-        Borrower::Zero => 0,
-        Borrower::One => 1,
-        Borrower::Two => 2,
-        Borrower::Three => 3,
-    }
+    usize::from(u8::from(who))
 }
 
 // The borrowers, all down.
@@ -123,7 +118,7 @@ impl Stage {
         if !node.is_up() {
             return Ok(print::word(out, "down")?);
         }
-        let clock = self.time.reading(u8::from(who));
+        let clock = self.time.reading(who);
         let (call, bytes) = called(act);
         if let Some(left) = torn {
             node.call_torn(clock, place, call, left)?;

@@ -8,9 +8,8 @@ use Rattle.part.specs.declared.place.Place.{Place}
 use Rattle.lines.specs.Chains.{and_then}
 use Rattle.lines.specs.Decimals.{number_of}
 use Rattle.lines.specs.Hex.{is_hex, hex_bytes, fronted}
+use Rattle.lines.specs.Names.{place_of, kind_of}
 use Rattle.lines.specs.Words.{words}
-use Rattle.message.specs.declared.kind.Kind.{Kind}
-use Rattle.message.specs.declared.kind.Kind.TheVariants.{Reading, Writing}
 use Rattle.script.specs.declared.step.Borrower.{Borrower as Who}
 use Rattle.script.specs.declared.step.Borrower.TheVariants.{Zero, One, Two, Three}
 use Rattle.script.specs.declared.step.Node.{Node}
@@ -41,10 +40,6 @@ abbrev pub ended : List (List ℕ) → Bool
 ended [] = true
 ended (w ∷ ws) = false
 
--- the number that a word stands for, where it is below a limit
-abbrev pub small_of : List ℕ → ℕ → Option ℕ
-small_of w limit = and_then (number_of w) (λ n. cond (nat_lt n limit) (Some n) None)
-
 -- each word is a number and takes the next place, of which there are enough; the places left over stay
 abbrev pub fill_of : List (List ℕ) → List ℕ → Option (List ℕ)
 fill_of [] out = Some out
@@ -64,17 +59,9 @@ borrower_at n = cond (n == 0) (Some Zero) (cond (n == 1) (Some One) (cond (n == 
 abbrev pub borrower_of : List ℕ → Option Who
 borrower_of w = and_then (number_of w) borrower_at
 
--- the kind of an ask: 0 reading, 1 writing
-abbrev pub kind_of : List ℕ → Option Kind
-kind_of w = and_then (number_of w) (λ n. cond (n == 0) (Some Reading) (cond (n == 1) (Some Writing) None))
-
 -- `keeper` or the number of a borrower
 abbrev pub node_of : List ℕ → Option Node
 node_of w = cond (bytes_eq w (codes "keeper")) (Some Keeper) (option_map (λ b. Borrower b) (borrower_of w))
-
--- the part of a file, by the number of each
-abbrev pub place_of : (file part : List ℕ) → Option ℕ
-place_of file part = and_then (small_of file 64) (λ f. option_map (λ p. 256 * f + p) (small_of part 256))
 
 -- 1,024 zeros
 unfoldable pub zeros : List ℕ

@@ -36,6 +36,7 @@ pub enum Node {
 }
 
 /// What a borrower is asked to do with a part.
+// The borrower's own `Call` does not carry the bytes of a write, which stand in the line.
 #[derive(Clone, Copy, Debug, PartialEq, Eq)]
 pub enum Act {
     /// Ask for it.

@@ -33,9 +33,7 @@ pub fn sent(out: &mut Output, message: Message, part: &[u8; 1024]) -> Result<(),
     ensures { OnOk result (printed out.new ≡ printed out.old ++ sent_text (said part.now message)) }
 {
     let mut bytes = [0; 1033];
-    let Some(size) = encode(&message, part, &mut bytes) else {
-        unreachable()
-    };
+    let size = encode(&message, part, &mut bytes).unwrap();
     out.text("send ")?;
     out.hex(&bytes[0..size])?;
     out.end_line()

@@ -28,7 +28,7 @@ pub fn serve<A: Answers>(rt: &HostRuntime, to: &mut A) -> Result<()>
     let mut stdout = rt.stdout();
     let mut input = Input::new(rt.alloc())?;
     let mut out = Output::new(rt.alloc());
-    // A count stays: an input need have no end, and 2^64 lines are more than any has.
+    // A count stays: a loop without one would ask for a handle that may wait. 2^64 lines are more than any input has.
     for _ in 0..u64::MAX {
         match input.next_line(&mut stdin)? {
             Some(Line::Whole) => to.answer(input.line(), &mut out)?,

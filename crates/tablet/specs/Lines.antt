@@ -1,12 +1,13 @@
 -- What a line of a tablet's input says, by its words.
 -- Assumes nothing.
-use Rattle.std.specs.Prelude.{ℕ, ◌+◌, ◌*◌, cond, List, [], ◌∷◌, length, Some, None, codes, Option, ◌==◌, nat_le}
+use Rattle.std.specs.Prelude.{ℕ, cond, List, [], ◌∷◌, length, Some, None, codes, Option, ◌==◌}
+use Rattle.std.specs.Option.{option_map}
 use Rattle.std.specs.Str.{bytes_eq}
 use Rattle.lines.specs.Decimals.{number_of}
 use Rattle.lines.specs.Hex.{is_hex, hex_bytes}
+use Rattle.lines.specs.Names.{place_of, kind_of}
 use Rattle.borrower.specs.declared.outcome.Call.{Call}
 use Rattle.borrower.specs.declared.outcome.Call.TheVariants as calls
-use Rattle.message.specs.declared.kind.Kind.TheVariants as kind
 use Rattle.tablet.specs.declared.line.Act.{Act}
 use Rattle.tablet.specs.declared.line.Act.TheVariants as act
 use Rattle.tablet.specs.declared.line.Said.{Said}
@@ -25,25 +26,12 @@ plain (act.Call c p) = call c p.at
 abbrev pub plain_said : Said → ℕ × Plain
 plain_said s = (s.clock, plain s.act)
 
--- the part that two numbers name
-abbrev pub place_by : Option ℕ → Option ℕ → Option ℕ
-place_by None p = None
-place_by (Some f) None = None
-place_by (Some f) (Some p) = cond (nat_le 64 f) None (cond (nat_le 256 p) None (Some (256 * f + p)))
-
-abbrev pub place_of : (file part : List ℕ) → Option ℕ
-place_of f p = place_by (number_of f) (number_of p)
-
 abbrev pub two_of : (verb : List ℕ) → (place : ℕ) → Option Plain
 two_of v q = cond (bytes_eq v (codes "show")) (Some (call calls.Show q)) (cond (bytes_eq v (codes "forget")) (Some (call calls.Forget q)) None)
 
-abbrev pub kind_by : (place : ℕ) → Option ℕ → Option Plain
-kind_by q None = None
-kind_by q (Some n) = cond (n == 0) (Some (call (calls.Ask kind.Reading) q)) (cond (n == 1) (Some (call (calls.Ask kind.Writing) q)) None)
-
 abbrev pub three_of : (verb : List ℕ) → (place : ℕ) → (word : List ℕ) → Option Plain
 three_of v q w =
-    cond (bytes_eq v (codes "ask")) (kind_by q (number_of w))
+    cond (bytes_eq v (codes "ask")) (option_map (λ k. call (calls.Ask k) q) (kind_of w))
     (cond (bytes_eq v (codes "write")) (cond (is_hex w) (cond (length (hex_bytes w) == 1024) (Some (call calls.Write q)) None) None) None)
 
 abbrev pub message_of : List ℕ → Option Plain

@@ -1,13 +1,13 @@
 ghost use Rattle.std.specs.Prelude.{◌≡◌, ◌∷◌};
 ghost use Rattle.std.specs.Option.{option_map};
 ghost use Rattle.lines.specs.Words.{words, rest_words};
-ghost use Rattle.tablet.specs.Lines.{plain, plain_said, place_of, message_of, two_of, three_of, act_of, said_of};
+ghost use Rattle.tablet.specs.Lines.{plain, plain_said, message_of, two_of, three_of, act_of, said_of};
 
 use borrower::outcome::Call;
 use lines::decimal::number;
 use lines::hex::decode;
+use lines::names::{kind, place};
 use lines::words::{is, split};
-use message::kind::Kind;
 use part::place::Place;
 
 /// What a line asks for, besides its reading of the clock.
@@ -16,7 +16,7 @@ use part::place::Place;
 pub enum Act {
     /// nothing
     Reading,
-    /// a message came, of so many bytes
+    /// a message came, of so many bytes, which are in lent memory
     Message(usize),
     /// a call; the 1,024 bytes of a write are in the buffer
     Call(Call, Place),
@@ -27,15 +27,6 @@ pub enum Act {
 pub struct Said {
     pub clock: u64,
     pub act: Act,
-}
-
-// The part that two words name.
-fn place(file: &[u8], part: &[u8]) -> Option<Place>
-    ensures { option_map (λ p. p.at) result ≡ place_of file.now part.now }
-{
-    let file = u8::try_from(number(file)?).ok()?;
-    let part = u8::try_from(number(part)?).ok()?;
-    Place::new(file, part)
 }
 
 // A call of two words behind it.
@@ -57,11 +48,7 @@ fn three(verb: &[u8], place: Place, word: &[u8], out: &mut [u8]) -> Option<Act>
     ensures { option_map plain result ≡ three_of verb.now place.at word.now }
 {
     match verb {
-        b"ask" => match number(word)? {
-            0 => Some(Act::Call(Call::Ask(Kind::Reading), place)),
-            1 => Some(Act::Call(Call::Ask(Kind::Writing), place)),
-            _ => None,
-        },
+        b"ask" => Some(Act::Call(Call::Ask(kind(word)?), place)),
         b"write" => match decode(word, out)? {
             1024 => Some(Act::Call(Call::Write, place)),
             _ => None,

@@ -4,7 +4,7 @@
 use anyhow::{Context, bail};
 use borrower::tablet::Tablet;
 use journal::store::file::FileStore;
-use lines::decimal::number;
+use lines::names::byte;
 use part::who::Who;
 use session::Session;
 use startup::serve::{end, serve};
@@ -23,9 +23,10 @@ const WANTED: &str = "five arguments are wanted: RATE SHORT LONG BORROWER FILE";
 
 // The borrower that a word names.
 fn borrower(word: &[u8]) -> Option<Who> {
-    Who::new(u8::try_from(number(word)?).ok()?)
+    Who::new(byte(word)?)
 }
 
+// Like the keeper's, and of other arguments and another owner of a journal: what the two share is in `startup`.
 fn run(rt: &HostRuntime) -> anyhow::Result<()> {
     let mut args = env::args(rt)?;
     let _ = args.next();

@@ -22,6 +22,7 @@ pub struct Session<S> {
 }
 
 impl<S: Store> Session<S> {
+    /// It is up from the start.
     pub fn new(tablet: Tablet, store: S) -> Session<S> {
         Session {
             tablet,

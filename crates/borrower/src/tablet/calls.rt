@@ -12,7 +12,7 @@ use part::head::Head;
 use part::place::Place;
 
 impl Tablet {
-    // By what its copies count as valid at this clock reading.
+    // What tells whether its copies are valid at this clock reading.
     fn timing(&self, clock: u64) -> Timing
         ensures { result ≡ record { clock = clock; short = self.now.short } }
     {
@@ -70,6 +70,7 @@ impl Tablet {
     }
 
     /// Any call.
+    // The reading, the part and the call stay three: the clock is the caller's, and only the others come with a line.
     pub fn perform(&mut self, clock: u64, place: Place, call: Call) -> Outcome
         ensures effect { (v : List ℕ) → effect v result ≡ call_effect self.old.who.id place.at v clock self.old.short call (part_at self.old place.at) (filed_at self.old place.at) }
         ensures left { Stepped self.old self.new place.at (call_part clock self.old.short call (part_at self.old place.at)) }

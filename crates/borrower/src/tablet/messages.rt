@@ -1,4 +1,4 @@
-ghost use Rattle.std.specs.Prelude.{◌≡◌, ◌==◌, cond, [], Some};
+ghost use Rattle.std.specs.Prelude.{◌≡◌, ◌==◌, if◌then◌else◌, [], Some};
 ghost use Rattle.message.specs.Format.{Loan, Recall, said};
 ghost use Rattle.message.specs.Reading.{read};
 ghost use Rattle.borrower.specs.Tablets.{part_at, filed_at};
@@ -45,7 +45,7 @@ impl Tablet {
 
     // The writer is told what became of its write.
     fn on_written(&self, head: Head, message: Message) -> Outcome
-        ensures { effect [] result ≡ cond (head.who.id == self.now.who.id) (told (said [] message)) turned_away }
+        ensures { effect [] result ≡ if head.who.id == self.now.who.id then told (said [] message) else turned_away }
     {
         if head.who != self.who {
             return Outcome::turned_away();

@@ -30,7 +30,8 @@ fn put(file: &mut File, bytes: &[u8]) -> usize
     ensures { result ≤ length bytes.now }
 {
     let mut done = 0;
-    // A count stays: how often a signal comes has no bound. `write_all` would not say how many bytes the system took.
+    // A count stays: a loop without one would ask for a handle that may wait. And `write_all` would not say how many bytes
+    // the system took.
     for _ in 0..u64::MAX {
         if done == bytes.len() {
             break;

@@ -1,6 +1,6 @@
 ghost use Rattle.std.specs.Prelude.{◌≡◌, [], ◌∷◌, ◌++◌, is_ok, IfOk, IsOkUnless, if◌then◌else◌, count_by, filter, nat_lt};
 ghost use Rattle.std.specs.List.{list_any};
-ghost use Rattle.lease.specs.Leases.{running, barring, allowing, staying};
+ghost use Rattle.lease.specs.Leases.{running, barring_ask, allowing_write, staying_after};
 ghost use Rattle.lease.specs.Tables.{leases, marks_of};
 
 use crate::lease::Lease;
@@ -16,7 +16,7 @@ pub const MOST: usize = 4096;
 // Which of the 32 borrowers have a lease that stands in the way of a loan.
 // A loop over the leases stays: a search of the whole table for each borrower would look at each lease 32 times.
 fn marks(leases: &[Lease], clock: u64, ask: &Ask) -> [bool; 32]
-    ensures { result ≡ marks_of (barring clock ask.now.head.who.id ask.now.head.place.at ask.now.kind) leases.now }
+    ensures { result ≡ marks_of (barring_ask clock ask.now) leases.now }
 {
     let mut marks = [false; 32];
     for l in leases {
@@ -39,21 +39,21 @@ impl Table {
 
     /// Whether some lease stands in the way of a loan.
     pub fn bars(&self, clock: u64, ask: &Ask) -> bool
-        ensures { result ≡ list_any (barring clock ask.now.head.who.id ask.now.head.place.at ask.now.kind) (leases self.now) }
+        ensures { result ≡ list_any (barring_ask clock ask.now) (leases self.now) }
     {
         self.leases.iter().any(|l| l.bars(clock, ask))
     }
 
     /// Which borrowers have a lease that stands in the way of a loan.
     pub fn barring(&self, clock: u64, ask: &Ask) -> [bool; 32]
-        ensures { result ≡ marks_of (barring clock ask.now.head.who.id ask.now.head.place.at ask.now.kind) (leases self.now) }
+        ensures { result ≡ marks_of (barring_ask clock ask.now) (leases self.now) }
     {
         marks(&self.leases, clock, ask)
     }
 
     /// Whether a borrower may write a part.
     pub fn allows(&self, clock: u64, write: &Head) -> bool
-        ensures { result ≡ list_any (allowing clock write.now.who.id write.now.place.at) (leases self.now) }
+        ensures { result ≡ list_any (allowing_write clock write.now) (leases self.now) }
     {
         self.leases.iter().any(|l| l.allows(clock, write))
     }
@@ -88,7 +88,7 @@ impl Table {
 
     /// Ends the leases of a part to a borrower for asks up to this number.
     pub fn end(&mut self, back: &Head)
-        ensures { leases self.new ≡ filter (staying back.now.who.id back.now.place.at back.now.number) (leases self.old) }
+        ensures { leases self.new ≡ filter (staying_after back.now) (leases self.old) }
     {
         self.leases.retain(|l| l.stays(back));
     }

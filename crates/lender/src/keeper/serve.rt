@@ -8,9 +8,8 @@ ghost use Rattle.lender.specs.Replies.{effect, place_in, heard_effect, heard_boo
 
 use crate::answer::Reply;
 use crate::keeper::Keeper;
-use journal::log::log;
 use journal::record::Record;
-use journal::store::{Store, StoreError};
+use journal::store::{Store, StoreError, commit_record};
 use message::refusal::Refusal;
 use part::place::Place;
 
@@ -58,7 +57,7 @@ impl Keeper {
     {
         match record {
             None => Ok(()),
-            Some(record) => log(store, Some(record), self.files.part(place_in(record))),
+            Some(record) => commit_record(store, &record, self.files.part(place_in(record))),
         }
     }
 

@@ -14,35 +14,17 @@ use part::head::Head;
 
 impl Lender {
     // The write of this number is applied.
-    // It and `set_void` stay two: they set another field each, and what a closure makes of the numbers would need a contract
-    // longer than both.
     pub(crate) fn set_done(&mut self, head: Head)
         ensures { book self.new ≡ applied head.who.id head.place.at head.number (book self.old) }
     {
-        let numbers = &mut self.numbers[head.place.at as usize];
-        let counts = numbers.of(head.who);
-        numbers.set(
-            head.who,
-            Counts {
-                done: head.number,
-                ..counts
-            },
-        );
+        self.numbers[head.place.at as usize].counts[head.who.id as usize].done = head.number;
     }
 
     // The writes up to this number are void.
     pub(crate) fn set_void(&mut self, head: Head)
         ensures { book self.new ≡ with_void_at head.who.id head.place.at head.number (book self.old) }
     {
-        let numbers = &mut self.numbers[head.place.at as usize];
-        let counts = numbers.of(head.who);
-        numbers.set(
-            head.who,
-            Counts {
-                voided: head.number,
-                ..counts
-            },
-        );
+        self.numbers[head.place.at as usize].counts[head.who.id as usize].voided = head.number;
     }
 
     // Adds a lease, where there is room in the table and in the clock.
@@ -58,7 +40,7 @@ impl Lender {
             number: ask.head.number,
             until: clock + self.long,
         };
-        let _ = self.table.grant(clock, lease);
+        self.table.grant(clock, lease).unwrap();
     }
 
     // Lends, where there is room in the table and in the clock.

@@ -124,7 +124,7 @@ impl Input {
         ensures { IfOk result (λ l. (got : List ℕ) × Handed l (rest self.old ++ got) (line_of self.new) (rest self.new)) }
     {
         let mut seen = 0;
-        // A count stays: how many blocks come before a newline does has no bound.
+        // A count stays: a loop without one would ask for a handle that may wait.
         for _ in 0..u64::MAX {
             if self.take_line(seen) {
                 return Ok(Some(Line::Whole));

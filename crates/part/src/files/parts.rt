@@ -19,13 +19,13 @@ impl Files {
     pub fn part(&self, place: Place) -> &[u8; 1024]
         ensures { result.now ≡ parts self.now place.at }
     {
-        &self.parts[place.at as usize]
+        &self.parts[usize::from(place.at)]
     }
 
     /// Writes one part; every other is as it was.
     pub fn write(&mut self, place: Place, bytes: &[u8; 1024])
         ensures { parts self.new ≡ at_1 place.at bytes.now (parts self.old) }
     {
-        self.parts[place.at as usize] = *bytes;
+        self.parts[usize::from(place.at)] = *bytes;
     }
 }

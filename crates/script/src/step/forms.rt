@@ -7,6 +7,7 @@ ghost use Rattle.script.specs.Scripts.{two_of, ask_of, write_of, act_of, call_of
 use crate::step::parts::*;
 use crate::step::{Act, Node, Step};
 use lines::decimal::number;
+use lines::names::{kind, place};
 use lines::words::{is, split};
 use part::place::Place;
 
@@ -22,6 +23,7 @@ pub(super) fn read_set(rest: Option<&[u8]>) -> Option<Step<Place>>
 }
 
 // How far time and clocks go on, from the words behind `tick`.
+// It and `read_set` stay two: with how many numbers, with which at first and of which step are all they say.
 pub(super) fn read_tick(rest: Option<&[u8]>) -> Option<Step<Place>>
     ensures { option_map plain result ≡ tick_of (rest_words rest.entry) }
 {
@@ -96,6 +98,7 @@ fn read_ask(rest: Option<&[u8]>) -> Option<(Act, Option<&[u8]>)>
 }
 
 // A write of the bytes that the next word gives, and what is left.
+// It and `read_ask` stay two: what they do is one line, and a function of both would have two readers for parameters.
 fn read_write(rest: Option<&[u8]>) -> Option<(Act, Option<&[u8]>)>
     ensures { option_map (λ x. (x.0, rest_words x.1)) result ≡ write_of (rest_words rest.entry) }
 {

@@ -1,14 +1,12 @@
-ghost use Rattle.std.specs.Prelude.{◌≡◌, ℕ, ◌≤◌, List, Option};
+ghost use Rattle.std.specs.Prelude.{◌≡◌, ℕ, List, Option};
 ghost use Rattle.std.specs.Option.{option_map};
 ghost use Rattle.lines.specs.Words.{rest_words};
-ghost use Rattle.script.specs.Scripts.{is_blank, ended, fill_of, small_of, borrower_of, kind_of, node_of, place_of, zeros, bytes_of, keyed, torn_of, Reads};
+ghost use Rattle.script.specs.Scripts.{is_blank, ended, fill_of, borrower_of, node_of, zeros, bytes_of, keyed, torn_of, Reads};
 
 use crate::step::{Borrower, Node};
 use lines::decimal::number;
 use lines::hex::decode;
 use lines::words::{is, split};
-use message::kind::Kind;
-use part::place::Place;
 
 // The line is passed over.
 pub(super) fn blank(line: &[u8]) -> bool
@@ -32,6 +30,7 @@ pub(super) fn fill(rest: Option<&[u8]>, out: &mut [u64]) -> Option<()>
     ensures { option_map (λ _. out.new) result ≡ fill_of (rest_words rest.entry) out.old }
 {
     let mut rest = rest;
+    // What is left is moved on by hand: of what is written through a `zip` with the words a proof knows nothing.
     for slot in out.iter_mut() {
         let Some(text) = rest else {
             return Some(());
@@ -41,15 +40,6 @@ pub(super) fn fill(rest: Option<&[u8]>, out: &mut [u64]) -> Option<()>
         rest = more;
     }
     over(rest).then_some(())
-}
-
-// The number that a word stands for, where it is below a limit.
-fn small(word: &[u8], limit: u64) -> Option<u8>
-    requires { limit ≤ 256 }
-    ensures { result ≡ small_of word.now limit }
-{
-    let n = number(word)?;
-    if n < limit { Some(n as u8) } else { None }
 }
 
 // The borrower of this number.
@@ -65,13 +55,6 @@ pub(super) fn borrower(word: &[u8]) -> Option<Borrower>
     }
 }
 
-// The kind of an ask.
-pub(super) fn kind(word: &[u8]) -> Option<Kind>
-    ensures { result ≡ kind_of word.now }
-{
-    Kind::try_from(small(word, 256)?).ok()
-}
-
 // Who is meant: the keeper, or a borrower.
 pub(super) fn node(word: &[u8]) -> Option<Node>
     ensures { result ≡ node_of word.now }
@@ -81,15 +64,6 @@ pub(super) fn node(word: &[u8]) -> Option<Node>
         return Some(Node::Keeper);
     }
     borrower(word).map(Node::Borrower)
-}
-
-// The part of a file, where there are such a file and such a part.
-pub(super) fn place(file: &[u8], part: &[u8]) -> Option<Place>
-    ensures { option_map (λ p. p.at) result ≡ place_of file.now part.now }
-{
-    let file = small(file, 64)?;
-    let part = small(part, 256)?;
-    Place::new(file, part)
 }
 
 // What a reader makes of the word behind a key, where the key comes next, and what is left.

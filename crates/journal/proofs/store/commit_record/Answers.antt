@@ -6,10 +6,11 @@ use Rattle.journal.proofs.store.commit_record.Goals as goal
 
 pub returns : goal.returns
 returns g c =
-    let e = c.in-Some.ensures in
+    let u = c.unwrap-size.ensures in
+    let e = rw u at c.encode.ensures in
     let lay : List ℕ = layout (recorded c.args.part.now c.args.«record».now) in
     let P : List ℕ → Type 0 = λ q. Committed (g.S.Store.disk c.args.store.now) q (g.S.Store.disk c.commit.new.store) c.commit.result in
     record {
       formed = e.formed refl;
-      committed = subst P (front_is c.in-Some.size c.encode.new.out lay _ e.wrote.0 e.wrote.1) c.commit.ensures;
+      committed = subst P (front_is c.unwrap-size.result c.encode.new.out lay _ e.wrote.0 e.wrote.1) c.commit.ensures;
     }

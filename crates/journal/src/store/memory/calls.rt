@@ -40,9 +40,7 @@ impl MemoryStore {
         ensures file { (disk_of self.new).appended ≡ (disk_of self.old).appended ++ bytes.now }
         ensures disk { (disk_of self.new).synced ≡ (disk_of self.old).synced }
     {
-        let Ok(()) = self.bytes.extend_from_slice(bytes) else {
-            unreachable()
-        };
+        self.bytes.extend_from_slice(bytes).unwrap();
     }
 
     /// Keeps so many of the file's first bytes.

@@ -8,7 +8,7 @@ use Rattle.startup.proofs.print.sent.Goals as goal
 
 pub returns : goal.returns
 returns c =
-    let w = c.in-Some.ensures.wrote in
+    let w = (rw c.unwrap-size.ensures at c.encode.ensures).wrote in
     let lay = layout (said c.args.part.now c.args.message) in
     thrice (printed c.args.out.now) _ _ _ _ _ _ _ c.in_ok-text.ensures
     (c.in_ok-hex.ensures ∙ ap (λ (bs : List ℕ). printed c.text.new.self ++ hex_text bs) (front_is _ _ lay _ w.0 w.1))
