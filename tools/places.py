@@ -125,7 +125,7 @@ POINTS = [
     ("3 `while` and `loop`", lambda t: lines(t, r"\b(while |loop \{)")),
     ("3 a `for` that looks for an element", lambda t: pairs(t, r"for \w+ in ", r"^\s+if .*\{$")),
     ("4 types that are copied and not compared or printed", lambda t: lines(t, r"derive\(Clone, Copy\)\]")),
-    ("4 comparison, conversion and printing by hand", lambda t: lines(t, r"fn (same|same_kind|byte|of)\(.*(self|byte: u8|Kind)|fn text\(self\)")),
+    ("4 comparison, conversion and printing by hand", lambda t: lines(t, r"fn (same|same_kind|byte|of|into_\w+|to_\w+)\(.*(self|byte: u8|Kind)|fn text\(self\)")),
     ("4 casts by `as` to a wider number", lambda t: lines(t, r" as (u128|u64)\b")),
     ("5 clauses that stand in three contracts or more", clauses),
     ("5 parameters that three functions or more have together", together),

@@ -2,6 +2,7 @@
 -- Assumes nothing.
 use Rattle.std.specs.Prelude.{ℕ, List, [], ◌∷◌, Some, None, Ok, Err, Option, Result}
 use Rattle.message.specs.declared.kind.Kind.{Kind}
+use Rattle.message.specs.declared.form.Ask as ask
 use Rattle.message.specs.declared.refusal.Refusal.{Refusal}
 use Rattle.message.specs.declared.refusal.Refusal.TheVariants.{Malformed}
 use Rattle.message.specs.Format.{Msg, Ask, Loan, Write, In, Void, Recall, Back, said, place_of}
@@ -47,6 +48,13 @@ turned_away = record { records = []; sends = []; answer = Err Malformed }
 
 abbrev pub ask_effect : (who place number : ℕ) → Kind → (written : ℕ) → (v : List ℕ) → AskAnswer → Effect
 ask_effect i q n k l v a = record { records = ask_records i q l a; sends = ask_sends i q n k v a; answer = ask_refusal a }
+
+-- an ask of the code as a message, and what comes of it
+abbrev pub asked : ask.Ask → Msg
+asked a = Ask a.head.who.id a.head.place.at a.head.number a.kind a.written
+
+abbrev pub effect_of : ask.Ask → (v : List ℕ) → AskAnswer → Effect
+effect_of a v r = ask_effect a.head.who.id a.head.place.at a.head.number a.kind a.written v r
 
 abbrev pub write_effect : (who place number : ℕ) → (v : List ℕ) → WriteAnswer → Effect
 write_effect i q n v a = record { records = write_records i q n v a; sends = write_sends i q n a; answer = write_refusal a }

@@ -2,6 +2,7 @@
 -- Assumes nothing.
 use Rattle.std.specs.Prelude.{ℕ, suc, ◌+◌, ◌^◌, Bool, true, false, cond, ◌&&◌, List, [], ◌∷◌, ◌++◌, count_by, filter, ◌==◌, nat_le, nat_lt}
 use Rattle.message.specs.declared.kind.Kind.{Kind}
+use Rattle.message.specs.declared.form.Ask.{Ask}
 use Rattle.message.specs.Format.{Msg, Loan, In, Void, Recall}
 use Rattle.journal.specs.Records.{Rec, Applied, VoidUpTo}
 use Rattle.lease.specs.declared.lease.Lease.{Lease}
@@ -135,3 +136,16 @@ risen c m = record { done = m.done; void = m.void; leases = []; quiet = c + m.lo
 -- at first nothing is written, and there are no leases
 abbrev pub fresh : (long : ℕ) → Book
 fresh l = record { done = λ q i. 0; void = λ q i. 0; leases = []; quiet = 0; long = l }
+
+-- THE SAME of an ask of the code: the answer, and what the book is after it was judged, granted, and given a lease
+abbrev pub answer_to : (clock : ℕ) → Ask → Book → AskAnswer
+answer_to c a m = ask_answer c a.head.who.id a.head.place.at a.kind a.written m
+
+abbrev pub after_answer : (clock : ℕ) → Ask → AskAnswer → Book → Book
+after_answer c a r m = after_ask c a.head.who.id a.head.place.at a.head.number a.kind a.written r m
+
+abbrev pub granted_to : (clock : ℕ) → Ask → (voids : Bool) → Book → Book
+granted_to c a v m = granted c a.head.who.id a.head.place.at a.head.number a.kind a.written v m
+
+abbrev pub with_lease_of : (clock : ℕ) → Ask → Book → Book
+with_lease_of c a m = with_lease c a.head.who.id a.head.place.at a.head.number a.kind m

@@ -27,10 +27,10 @@ impl Numbers {
     }
 
     /// The numbers of a borrower.
-    pub fn of(&self, who: Who) -> Counts
+    pub fn counts_of(&self, who: Who) -> Counts
         ensures { result ≡ counts_at self.now who.id }
     {
-        let w = who.id as usize;
+        let w = usize::from(who.id);
         self.counts[w]
     }
 }

@@ -18,6 +18,7 @@ pub fn digit(b: u8) -> Option<u8>
 }
 
 // The value of a byte that was found to be a digit.
+// A 0 stays for what is none: to show here that there is one, the clauses of all that lead here would have to say so.
 fn value(b: u8) -> u8
     ensures is { result ≡ hex_value b }
     ensures small { result < 16 }

@@ -72,16 +72,23 @@ impl Node {
     }
 
     /// A call in the middle of which it stops: of the record only so many first bytes are left, and nothing leaves.
-    pub fn call_torn(&mut self, clock: u64, place: Place, call: Call, left: u64) -> Result<()> {
-        let outcome = self
-            .tablet
-            .as_mut()
-            .map(|tablet| tablet.perform(clock, place, call));
+    /// None where it is down.
+    pub fn call_torn(
+        &mut self,
+        clock: u64,
+        place: Place,
+        call: Call,
+        left: u64,
+    ) -> Result<Option<()>> {
+        let Some(tablet) = self.tablet.as_mut() else {
+            return Ok(None);
+        };
+        let outcome = tablet.perform(clock, place, call);
         self.stop();
-        match outcome.and_then(|outcome| outcome.record) {
-            Some(record) => tear(&mut self.file, record, left),
-            None => Ok(()),
+        if let Some(record) = outcome.record {
+            tear(&mut self.file, record, left)?;
         }
+        Ok(Some(()))
     }
 
     /// The copy of a part.

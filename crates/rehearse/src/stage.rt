@@ -114,15 +114,12 @@ impl Stage {
         torn: Option<u64>,
         out: &mut Output,
     ) -> Result<()> {
-        let node = &mut self.nodes[index(who)];
-        if !node.is_up() {
-            return Ok(print::word(out, "down")?);
-        }
         let clock = self.time.reading(who);
+        let node = &mut self.nodes[index(who)];
         let (call, bytes) = called(act);
         if let Some(left) = torn {
-            node.call_torn(clock, place, call, left)?;
-            return Ok(print::word(out, "stopped")?);
+            let stopped = node.call_torn(clock, place, call, left)?;
+            return Ok(print::word(out, stopped.map_or("down", |_| "stopped"))?);
         }
         let Some(outcome) = node.call(clock, place, call)? else {
             return Ok(print::word(out, "down")?);

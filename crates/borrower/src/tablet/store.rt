@@ -14,7 +14,7 @@ impl Tablet {
     pub(crate) fn part(&self, place: Place) -> Part
         ensures { result ≡ part_at self.now place.at }
     {
-        self.kept[place.at as usize].part
+        self.kept[usize::from(place.at)].part
     }
 
     // The part is as after coming up with these numbers in the journal.
@@ -22,7 +22,7 @@ impl Tablet {
         ensures { Left self.old self.new (at_1 place.at (risen filed) (part_at self.old)) (at_1 place.at filed (filed_at self.old)) (copy_at self.old) }
     {
         let part = Part::come_up(filed);
-        self.kept[place.at as usize] = Kept { part, filed };
+        self.kept[usize::from(place.at)] = Kept { part, filed };
     }
 
     // Writes the bytes of a copy.
@@ -37,6 +37,7 @@ impl Tablet {
         ensures record { recorded_by result ≡ records_of place.at (part_at self.old place.at) (filed_at self.old place.at) next }
         ensures left { Stepped self.old self.new place.at next }
     {
+        // `as usize` stays: with `usize::from` the proof did not close.
         let kept = &mut self.kept[place.at as usize];
         let is_due = kept.part != next && kept.filed.is_passed(next);
         kept.part = next;

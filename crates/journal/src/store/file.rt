@@ -92,6 +92,7 @@ impl Store for FileStore {
 
     fn truncate(&mut self, size: usize) -> Result<(), StoreError> {
         let end = size.min(self.taken.content().len());
+        // `as u64` stays: the library has no `From` for it.
         self.file
             .set_len(end as u64)
             .map_err(|_| StoreError::Failed)?;

@@ -20,6 +20,7 @@ fn marks(leases: &[Lease], clock: u64, ask: &Ask) -> [bool; 32]
 {
     let mut marks = [false; 32];
     for l in leases {
+        // `as usize` stays: with `usize::from` the proof did not close.
         let w = l.who as usize;
         if w < 32 && l.bars(clock, ask) {
             marks[w] = true;

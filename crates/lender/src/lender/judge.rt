@@ -1,7 +1,7 @@
 ghost use Rattle.std.specs.Prelude.{◌≡◌, ◌+◌, count_by};
 ghost use Rattle.lease.specs.Leases.{running};
 ghost use Rattle.lender.specs.Book.{book};
-ghost use Rattle.lender.specs.Rules.{ask_answer, write_answer};
+ghost use Rattle.lender.specs.Rules.{answer_to, write_answer};
 ghost use Rattle.lender.specs.Room.{Room};
 
 use crate::answer::{AskAnswer, WriteAnswer};
@@ -17,7 +17,7 @@ impl Lender {
         ensures done { result.done ≡ (book self.now).done head.now.place.at head.now.who.id }
         ensures voided { result.voided ≡ (book self.now).void head.now.place.at head.now.who.id }
     {
-        self.numbers[head.place.at as usize].of(head.who)
+        self.numbers[usize::from(head.place.at)].counts_of(head.who)
     }
 
     /// What is to come of a write.
@@ -46,7 +46,7 @@ impl Lender {
 
     /// What is to come of an ask.
     pub fn judge_ask(&self, clock: u64, ask: &Ask) -> AskAnswer
-        ensures is { result ≡ ask_answer clock ask.now.head.who.id ask.now.head.place.at ask.now.kind ask.now.written (book self.now) }
+        ensures is { result ≡ answer_to clock ask.now (book self.now) }
         ensures room { Room (clock + self.now.long) (count_by (running clock) (book self.now).leases) result }
     {
         if clock < self.quiet {

@@ -1,9 +1,9 @@
 ghost use Rattle.std.specs.Prelude.{◌≡◌, ℕ, List, Some};
-ghost use Rattle.message.specs.Format.{Ask as AskMsg, Write, Back};
+ghost use Rattle.message.specs.Format.{Write, Back};
 ghost use Rattle.message.specs.Reading.{read};
 ghost use Rattle.part.specs.Parts.{parts};
 ghost use Rattle.lender.specs.Book.{book};
-ghost use Rattle.lender.specs.Replies.{effect, turned_away, ask_effect, write_effect, heard_effect, heard_book, heard_parts};
+ghost use Rattle.lender.specs.Replies.{effect, turned_away, asked, effect_of, write_effect, heard_effect, heard_book, heard_parts};
 
 use crate::answer::{AskAnswer, Reply, Sends, WriteAnswer};
 use crate::lender::Lender;
@@ -23,7 +23,7 @@ fn turned_away() -> Reply
 
 // The reply to an ask.
 fn ask_reply(ask: &Ask, answer: AskAnswer) -> Reply
-    ensures { (f : ℕ → List ℕ) → effect f result ≡ ask_effect ask.now.head.who.id ask.now.head.place.at ask.now.head.number ask.now.kind ask.now.written (f ask.now.head.place.at) answer }
+    ensures { (f : ℕ → List ℕ) → effect f result ≡ effect_of ask.now (f ask.now.head.place.at) answer }
 {
     let Ask {
         head,
@@ -70,8 +70,8 @@ fn write_reply(head: Head, answer: WriteAnswer) -> Reply
 impl Lender {
     // An ask comes.
     fn on_ask(&mut self, clock: u64, ask: &Ask) -> Reply
-        ensures effect { (f : ℕ → List ℕ) → effect f result ≡ heard_effect clock (Some (AskMsg ask.now.head.who.id ask.now.head.place.at ask.now.head.number ask.now.kind ask.now.written)) (book self.old) f }
-        ensures book { book self.new ≡ heard_book clock (Some (AskMsg ask.now.head.who.id ask.now.head.place.at ask.now.head.number ask.now.kind ask.now.written)) (book self.old) }
+        ensures effect { (f : ℕ → List ℕ) → effect f result ≡ heard_effect clock (Some (asked ask.now)) (book self.old) f }
+        ensures book { book self.new ≡ heard_book clock (Some (asked ask.now)) (book self.old) }
     {
         let answer = self.ask(clock, ask);
         ask_reply(ask, answer)

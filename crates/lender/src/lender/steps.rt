@@ -2,7 +2,7 @@ ghost use Rattle.std.specs.Prelude.{◌≡◌, ◌+◌, ◌^◌, ◌<◌, [], co
 ghost use Rattle.lease.specs.Leases.{running};
 ghost use Rattle.part.specs.Parts.{parts, at_1};
 ghost use Rattle.lender.specs.Book.{book};
-ghost use Rattle.lender.specs.Rules.{ask_answer, after_ask, write_answer, after_write, parts_after, granted, applied, given_back, with_void_at, with_lease};
+ghost use Rattle.lender.specs.Rules.{answer_to, after_answer, write_answer, after_write, parts_after, granted_to, applied, given_back, with_void_at, with_lease_of};
 
 use crate::answer::{AskAnswer, WriteAnswer};
 use crate::lender::Lender;
@@ -14,6 +14,7 @@ use part::head::Head;
 
 impl Lender {
     // The write of this number is applied.
+    // `as usize` stays, here and below: with `usize::from` the proof did not close.
     pub(crate) fn set_done(&mut self, head: Head)
         ensures { book self.new ≡ applied head.who.id head.place.at head.number (book self.old) }
     {
@@ -31,7 +32,7 @@ impl Lender {
     fn add_lease(&mut self, clock: u64, ask: &Ask)
         requires clock { clock + self.old.long < 2 ^ 64 }
         requires table { count_by (running clock) (book self.old).leases < 4096 }
-        ensures { book self.new ≡ with_lease clock ask.now.head.who.id ask.now.head.place.at ask.now.head.number ask.now.kind (book self.old) }
+        ensures { book self.new ≡ with_lease_of clock ask.now (book self.old) }
     {
         let lease = Lease {
             who: ask.head.who.id,
@@ -47,7 +48,7 @@ impl Lender {
     fn grant(&mut self, clock: u64, ask: &Ask, voids: bool)
         requires clock { clock + self.old.long < 2 ^ 64 }
         requires table { count_by (running clock) (book self.old).leases < 4096 }
-        ensures { book self.new ≡ granted clock ask.now.head.who.id ask.now.head.place.at ask.now.head.number ask.now.kind ask.now.written voids (book self.old) }
+        ensures { book self.new ≡ granted_to clock ask.now voids (book self.old) }
     {
         self.add_lease(clock, ask);
         if voids {
@@ -60,8 +61,8 @@ impl Lender {
 
     /// An ask: judged, and the part lent where nothing stands in the way.
     pub fn ask(&mut self, clock: u64, ask: &Ask) -> AskAnswer
-        ensures answer { result ≡ ask_answer clock ask.now.head.who.id ask.now.head.place.at ask.now.kind ask.now.written (book self.old) }
-        ensures after { book self.new ≡ after_ask clock ask.now.head.who.id ask.now.head.place.at ask.now.head.number ask.now.kind ask.now.written result (book self.old) }
+        ensures answer { result ≡ answer_to clock ask.now (book self.old) }
+        ensures after { book self.new ≡ after_answer clock ask.now result (book self.old) }
     {
         let answer = self.judge_ask(clock, ask);
         if let AskAnswer::Granted { voids } = answer {

@@ -43,6 +43,7 @@ pub(super) fn fill(rest: Option<&[u8]>, out: &mut [u64]) -> Option<()>
 }
 
 // The borrower of this number.
+// A `match` stays: `TryFrom` would be the same one, with an error beside it that nothing reads.
 pub(super) fn borrower(word: &[u8]) -> Option<Borrower>
     ensures { result ≡ borrower_of word.now }
 {
