@@ -67,6 +67,7 @@ fn ahead_by(terms: &Terms, slack: u64, p: Point, q: Point) -> bool
 }
 
 /// The same of how far it is behind the fastest: at `q`, then, it is ahead of that.
+// The two readings stay parameters, here and above: they are compared, and no value holds both.
 // It and `ahead_by` stay two names of one rule: each says in a word what its caller asks.
 fn behind_by(terms: &Terms, slack: u64, p: Point, q: Point) -> bool
     ensures { result ≡ behind_by terms.now.rate 1 slack p q }

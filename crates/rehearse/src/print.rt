@@ -8,6 +8,7 @@ use part::who::Who;
 use std::alloc::AllocError;
 
 /// Prints a line that is one word.
+// What is printed stays beside what it is printed to, here and below: no value holds both.
 pub fn word(out: &mut Output, text: &str) -> Result<(), AllocError> {
     out.text(text)?;
     out.end_line()

@@ -7,6 +7,7 @@ use startup::print::{answer, sent};
 use std::alloc::AllocError;
 
 // Prints a part's file and number.
+// What is printed stays beside what it is printed to, here and below: no value holds both.
 fn place(out: &mut Output, place: Place) -> Result<(), AllocError> {
     out.number(u64::from(place.file()))?;
     out.text(" ")?;

@@ -10,6 +10,8 @@ use journal::log::log;
 use journal::store::{Store, StoreError};
 use part::place::Place;
 
+// The clause `logged` stands with each of the three: it is one name, and says of each what is in the journal.
+
 // The outcome, once its record, if there is one, is in the journal and synced.
 fn logged<S: Store>(store: &mut S, outcome: Outcome) -> Result<Outcome, StoreError>
     ensures same { IfOk result (λ o. o ≡ outcome) }

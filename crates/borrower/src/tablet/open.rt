@@ -15,6 +15,7 @@ use std::alloc::{AllocError, Global};
 
 impl Tablet {
     /// A borrower that never asked for anything: what an empty journal says.
+    // Heap, borrower and time stay three parameters: it is the tablet that holds them together.
     pub fn new(heap: Global, who: Who, short: u64) -> Result<Tablet, AllocError>
         ensures { IfOk result (λ t. Fresh who short t) }
     {

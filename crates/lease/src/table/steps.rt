@@ -39,6 +39,7 @@ impl Table {
     }
 
     /// Whether some lease stands in the way of a loan.
+    // The reading stays beside the ask: the clock is the keeper's, and the ask came.
     pub fn bars(&self, clock: u64, ask: &Ask) -> bool
         ensures { result ≡ list_any (barring_ask clock ask.now) (leases self.now) }
     {

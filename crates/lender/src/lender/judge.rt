@@ -21,6 +21,7 @@ impl Lender {
     }
 
     /// What is to come of a write.
+    // The reading stays beside the message, here and in the steps: the clock is the keeper's, and the message came.
     pub fn judge_write(&self, clock: u64, head: Head) -> WriteAnswer
         ensures { result ≡ write_answer clock head.who.id head.place.at head.number (book self.now) }
     {
