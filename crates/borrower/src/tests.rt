@@ -117,6 +117,7 @@ fn numbers_only_rise(rt: HostRuntime) -> Result<(), Fail> {
     let place = Place::new(3, 7).ok_or("no part")?;
     let mut store = MemoryStore::new(rt.alloc());
     let mut last = 0;
+    // The ranges count how often: five times up, and 70 asks each.
     for _ in 0..5 {
         let mut tablet = Tablet::open(rt.alloc(), who, 100, &mut store)?;
         for _ in 0..70 {

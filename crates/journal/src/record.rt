@@ -14,6 +14,7 @@ pub enum Owner {
 
 /// A record. The 1,024 bytes of a part that is applied stand beside it:
 /// in the bytes that it was read from, or in the part that is lent where it is written.
+// So they stay two parameters, for the reason that a message gives.
 #[derive(Clone, Copy, Debug, PartialEq, Eq)]
 pub enum Record {
     /// the keeper applied this write of this borrower

@@ -212,6 +212,7 @@ const NONE: Seen = Seen {
 
 // Appends records with the numbers from 0 on, every other one a part.
 fn fill(store: &mut MemoryStore, count: u32) -> Result<(), Fail> {
+    // The range is of the numbers that the records have.
     for number in 0..count {
         let head = head(number).ok_or("no head")?;
         let record = if number % 2 == 0 {

@@ -8,6 +8,7 @@ use startup::print::{answer, sent};
 use std::alloc::AllocError;
 
 // Prints a recall to each borrower that is marked, by rising number.
+// What is printed stays beside what it is printed to, here and below: no value holds both.
 fn recalls(out: &mut Output, place: Place, by: [bool; 32]) -> Result<(), AllocError> {
     for (id, is_marked) in (0u8..32).zip(by) {
         if let (true, Some(who)) = (is_marked, Who::new(id)) {

@@ -58,6 +58,7 @@ fn at_most_4096_leases_run(rt: HostRuntime) -> Result<(), Fail> {
     let mut keeper = Keeper::new(rt.alloc(), 110)?;
     let mut store = MemoryStore::new(rt.alloc());
     assert!(rt; keeper.come_up(0).is_ok());
+    // The range is of the parts that are lent, and below of the numbers of writes.
     for at in 0u16..4096 {
         assert_eq!(rt;
             asked(&mut keeper, &mut store, 110, 0, at, Kind::Reading)?,

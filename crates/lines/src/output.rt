@@ -17,6 +17,7 @@ fn trim(bytes: &[u8]) -> &[u8]
     ensures { result.now ≡ trimmed bytes.now }
 {
     let mut rest = bytes;
+    // A pattern stays: a search from the end and a cut there would take two steps and two facts.
     while let [front @ .., 0] = rest {
         rest = front;
     }

@@ -16,6 +16,7 @@ pub struct Ask {
 
 /// A message. The 1,024 bytes of a part that a loan or a write carries stand beside it:
 /// in the bytes that it was read from, or in the part that is lent where it is written.
+// So they stay two parameters: an enum that holds both a reference and a number with its bound gets no proof.
 #[derive(Clone, Copy, Debug, PartialEq, Eq)]
 pub enum Message {
     /// a borrower asks for a part

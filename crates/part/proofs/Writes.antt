@@ -3,7 +3,7 @@
 use Rattle.std.proofs.Common.{◌≡◌, ℕ, ◌+◌, ◌-◌, ◌<◌, ◌≤◌, Bool, cond, eqb, leb, List, [], ◌∷◌, ◌++◌, length, take, drop, set, sym, refl, ap, ◌∙◌, add-one, arith}
 use borrow.Rule.Slice.PartMut.{put_mid}
 use Rattle.std.proofs.lemmas.List.{drop_at, take_at, drop-drop, set_split, append_assoc}
-use Rattle.std.proofs.lemmas.Bool.{eq-eqb, cond-true, le-leb}
+use Rattle.std.proofs.lemmas.Bool.{eq-eqb, ne_eqb, cond-true, cond-false, le-leb}
 use Rattle.part.specs.Bytes.{placed}
 use Rattle.part.specs.Parts.{at_1}
 
@@ -39,3 +39,7 @@ there r m n y a b e l h = h ∙ cond-true r a b (e ∙ le-leb m n l)
 -- a function with another value at one place, read there and elsewhere
 pub at_1_here : {X : Type 0} (q : ℕ) (v : X) (f : ℕ → X) → at_1 q v f q ≡ v
 at_1_here q v f = cond-true (eqb q q) v (f q) (eq-eqb q q refl)
+
+-- and every other is as it was
+pub at_1_other : {X : Type 0} (q : ℕ) (v : X) (f : ℕ → X) (p : ℕ) → (p ≡ q → ⊥) → at_1 q v f p ≡ f p
+at_1_other q v f p ne = cond-false (eqb p q) v (f p) (ne_eqb p q ne)

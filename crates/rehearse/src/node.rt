@@ -91,9 +91,12 @@ impl Node {
         Ok(Some(()))
     }
 
-    /// The copy of a part.
-    pub fn copy(&self, place: Place) -> Option<&[u8; 1024]> {
-        self.tablet.as_ref().map(|tablet| tablet.copy(place))
+    /// The copy of a part; zeros where it is down.
+    pub fn copy(&self, place: Place) -> &[u8; 1024] {
+        match &self.tablet {
+            Some(tablet) => tablet.copy(place),
+            None => &[0; 1024],
+        }
     }
 }
 

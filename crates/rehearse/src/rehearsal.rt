@@ -1,16 +1,15 @@
-ghost use Rattle.std.specs.Prelude.{◌≡◌, suc};
+ghost use Rattle.std.specs.Prelude.{◌≡◌, suc, ◌<◌};
 ghost use Rattle.clock.specs.Clocks.{present};
-ghost use Rattle.script.specs.Scripts.{borrower_number};
 ghost use Rattle.rehearse.specs.Played.{Started, SetTo, Ticked, Later, Played};
 
 use clock::clocks::Clocks;
 use clock::terms::Terms;
 use message::refusal::Refusal;
 use part::place::Place;
-use script::step::{Borrower, Step};
+use script::step::Step;
 
 /// What is printed of a line that is done.
-// Nothing is one of three here, and not a missing value: an option of two would say the same in more words.
+// Nothing is one of three here, and no missing value: an option of two would say the same in more words.
 #[derive(Clone, Copy, Debug, PartialEq, Eq)]
 pub enum Said {
     Nothing,
@@ -78,10 +77,11 @@ impl Rehearsal {
     }
 
     /// What a borrower's clock reads.
-    pub fn reading(&self, who: Borrower) -> u64
-        ensures { result ≡ (present self.now.clocks).hand (suc (borrower_number who)) }
+    // A 0 stays for a fifth borrower: what gave a reading of any number still does.
+    pub fn reading(&self, who: u8) -> u64
+        ensures { who < 4 → result ≡ (present self.now.clocks).hand (suc who) }
     {
-        self.clocks.borrower(u8::from(who)).unwrap()
+        self.clocks.borrower(who).unwrap_or(0)
     }
 
     // What is not about time.

@@ -35,7 +35,7 @@ fn index(who: Borrower) -> usize
     usize::from(u8::from(who))
 }
 
-// The borrowers, all down.
+// The borrowers, all down. Four are written out: of a `map` the check would not know that each is below 32.
 fn cast(heap: Global, short: u64) -> [Node; 4] {
     [
         Node::new(heap, Who { id: 0 }, short),
@@ -114,7 +114,7 @@ impl Stage {
         torn: Option<u64>,
         out: &mut Output,
     ) -> Result<()> {
-        let clock = self.time.reading(who);
+        let clock = self.time.reading(u8::from(who));
         let node = &mut self.nodes[index(who)];
         let (call, bytes) = called(act);
         if let Some(left) = torn {
@@ -127,10 +127,9 @@ impl Stage {
         if call != Call::Show {
             return Ok(self.report(outcome, &bytes, out)?);
         }
-        match (outcome.answer, node.copy(place)) {
-            (Ok(()), Some(copy)) => Ok(print::shown(out, copy, &ZEROS)?),
-            (Ok(()), None) => Ok(print::word(out, "down")?),
-            (Err(refusal), _) => Ok(print::not_shown(out, refusal, &ZEROS)?),
+        match outcome.answer {
+            Ok(()) => Ok(print::shown(out, node.copy(place), &ZEROS)?),
+            Err(refusal) => Ok(print::not_shown(out, refusal, &ZEROS)?),
         }
     }
 

@@ -10,6 +10,7 @@ use message::refusal::Refusal;
 use std::alloc::AllocError;
 
 /// Prints a refusal by its number.
+// What is printed stays beside what it is printed to, here and below: no value holds both.
 pub fn refused(out: &mut Output, refusal: Refusal) -> Result<(), AllocError>
     ensures { OnOk result (printed out.new ≡ printed out.old ++ refused_text refusal) }
 {

@@ -16,7 +16,7 @@ use part::place::Place;
 pub enum Act {
     /// nothing
     Reading,
-    /// a message came, of so many bytes, which are in lent memory
+    /// a message came, of so many bytes, which are in lent memory, as no step takes any
     Message(usize),
     /// a call; the 1,024 bytes of a write are in the buffer
     Call(Call, Place),

@@ -51,7 +51,7 @@ impl Keeper {
         self.lender.receive(&mut self.files, clock, bytes)
     }
 
-    // Appends the record of a reply, if there is one, and syncs.
+    // Appends the record of a reply, if there is one, and syncs. The part's bytes are looked for only where there is one.
     fn log<S: Store>(&self, store: &mut S, record: Option<Record>) -> Result<(), StoreError>
         ensures { OnOk result (Logged (recorded_by (keeper_parts self.now) «record») (S.disk store.old) (S.disk store.new)) }
     {
@@ -61,6 +61,7 @@ impl Keeper {
         }
     }
 
+    // Store, reading and bytes stay three parameters: each is from somewhere else.
     /// A message comes. Once it is answered, the record of it is in the journal, and synced.
     pub fn serve<S: Store>(
         &mut self,

@@ -10,6 +10,7 @@ use std::alloc::{AllocError, Global};
 
 impl Lender {
     /// Nothing was written or lent yet. It is not up before `come_up`.
+    // Heap and time stay two parameters, here and of the keeper: it is what is made that holds both.
     pub fn new(heap: Global, long: u64) -> Result<Lender, AllocError>
         ensures { IfOk result (λ k. book k ≡ fresh long) }
     {
