@@ -67,6 +67,12 @@ cut_journal o up file =
     let e' : records_of o (bytes_of rs ++ []) ≡ rs = torn_end o rs (front_is_records o file).0 [] tt in
     (e, record { torn = subst (λ (x : List ℕ). Torn o (rest_of o x)) (append-nil (bytes_of rs)) (subst (Torn o) (sym (rest_is o rs [] e')) tt); whole = λ u. ap bytes_of e })
 
+-- a journal that has nothing
+pub empty_journal : (o : Owner) → (records_of o [] ≡ []) × Journal o false []
+empty_journal o =
+    let e = all o [] tt in
+    (e, record { torn = subst (Torn o) (sym (rest_is o [] [] e)) tt; whole = λ u. let z : ◌≡◌ {A = ℕ} 0 1 = cc in absurd (omega arith) })
+
 stopped_journal : (o : Owner) (file : List ℕ) (up : Bool) → Journal o up file → Journal o false file
 stopped_journal o file up j = record { torn = j.torn; whole = λ e. let z : ◌≡◌ {A = ℕ} 0 1 = cc in absurd (omega arith) }
 

@@ -11,3 +11,6 @@ mod Good
 mod Hears
 mod Serves
 mod Time
+mod Tick
+mod Events
+mod Whole

@@ -1,10 +1,16 @@
 // The world of one keeper, its borrowers, the network, the journals and the true time, and what is true of all its runs.
-// Only the order of moments is named by a function so far; the theorem over whole runs is to come.
 #![tactic(auto)]
 
 ghost use Rattle.world.specs.Laws.{TimeGoesOn};
+ghost use Rattle.world.specs.Promise.{Theorem};
 
 /// Names the law that in every run the true time and all clocks only go on.
 pub fn time_goes_on()
     ensures { TimeGoesOn }
+{}
+
+/// Names the theorem: of every run from empty journals on, whatever the network does and whoever stops when, all that `Promise` says
+/// holds while the clocks have kept within their stated error.
+pub fn keeps_promise()
+    ensures { Theorem }
 {}

@@ -1,0 +1,142 @@
+-- The theorem: what is promised holds of every run.
+-- Assumes nothing.
+use Rattle.std.proofs.Common.{◌≡◌, ℕ, suc, ◌+◌, ◌<◌, true, false, ◌⊎◌, List, [], ◌∷◌, ◌++◌, Some, None, Ok, Option, sym, refl, ap, ◌∙◌, subst, inl, inr}
+use mathlib.Core.List.Memᴰ
+use mathlib.Core.List.{Memᴰ}
+use Rattle.std.proofs.lemmas.Bool.{cond_both, leb-false}
+use Rattle.clock.specs.Moments.{Moment, Within, Between}
+use Rattle.clock.specs.Terms.{Fits}
+use Rattle.message.specs.declared.kind.Kind.{Kind}
+use Rattle.message.specs.declared.kind.Kind.TheVariants.{Reading}
+use Rattle.message.specs.Format.{Msg, Loan, In, Void}
+use Rattle.borrower.specs.declared.hold.Held.{Held as InHand}
+use Rattle.borrower.specs.declared.hold.Part.{Part}
+use Rattle.borrower.specs.declared.outcome.Call.TheVariants as call
+use Rattle.borrower.specs.Steps.{copy, stale, released, settled, showing}
+use Rattle.world.specs.World.{World, Event, call_effect}
+use Rattle.world.specs.Runs.{Put, Run, moments, next, run, start}
+use Rattle.world.specs.Promise.{MayShow, Sent, Made, Promise, Theorem, latest}
+use Rattle.world.proofs.Inv.{Setting, Clocked, Live}
+use Rattle.world.proofs.Wire.{was_sent}
+use Rattle.world.proofs.Good.{setting, Good}
+use Rattle.world.proofs.Time.{same_terms, time_goes_on, back, clocked}
+use Rattle.world.proofs.Tick.{start_good}
+use Rattle.world.proofs.Events.{message, After, event_good}
+
+-- EVERY RUN keeps the invariant, and each write in it was sent by a call that was allowed
+
+terms_are : (short long : ℕ) (m : Moment) (events : List Event) → setting (run (start short long m) events).world ≡ record { short = short; long = long }
+unfolding run
+terms_are s l m [] = refl
+terms_are s l m (e ∷ es) = same_terms (run (start s l m) es).world e ∙ terms_are s l m es
+
+record Reached (S : Setting) (first : Run) (events : List Event) : Type 0 where
+  pub sent : List Msg
+  pub good : Good S (run first events) sent
+  pub made : (p : Put) → Memᴰ (message p) sent → Made first events p
+
+one_more : (S : Setting) (first : Run) (e : Event) (es : List Event) → (b : Reached S first es) → After S (run first es) b.sent e (next (run first es) e) → Reached S first (e ∷ es)
+unfolding run
+one_more S first e es b a = record { sent = b.sent ++ a.new; good = a.good; made = λ p h. go p (Memᴰ.append_cases b.sent h) }
+  where
+    go : (p : Put) → Memᴰ (message p) b.sent ⊎ Memᴰ (message p) a.new → Made first (e ∷ es) p
+    go p (inl h) = let m = b.made p h in record { before = m.before; after = e ∷ m.after; is = ap (λ (x : List Event). e ∷ x) m.is; allowed = m.allowed; number = m.number }
+    go p (inr h) = let s = a.writes p h in record { before = es; after = []; is = ap (λ (x : Event). x ∷ es) s.is; allowed = s.allowed; number = s.number }
+
+module _ (rate short long grain : ℕ) (fits : Fits rate short long) (pos : 0 < grain) (m : Moment) where
+  abbrev S : Setting
+  S = record { short = short; long = long }
+
+  abbrev at : List Event → Run
+  at es = run (start short long m) es
+
+  clocks : (es : List Event) → Within rate grain (moments (at es)) → Clocked S (at es).world.now (at es).past
+  clocks es h = clocked rate short long grain fits pos (at es).world.now (at es).past h (time_goes_on short long m es)
+
+  before : (e : Event) (es : List Event) → Within rate grain (moments (next (at es) e)) → Within rate grain (moments (at es))
+  before e es h = back (Between rate grain) (at es) e h
+
+  one_event : (e : Event) (es : List Event) → Within rate grain (moments (at es)) → Reached S (start short long m) es → Reached S (start short long m) (e ∷ es)
+  one_event e es h b = one_more S (start short long m) e es b (subst (λ (s : Setting). After s (at es) b.sent e (next (at es) e)) t kept)
+    where
+      t : setting (at es).world ≡ S
+      t = terms_are short long m es
+
+      kept : After (setting (at es).world) (at es) b.sent e (next (at es) e)
+      kept = event_good (at es) b.sent (subst (λ (s : Setting). Good s (at es) b.sent) (sym t) b.good) (subst (λ (s : Setting). Clocked s (at es).world.now (at es).past) (sym t) (clocks es h)) e
+
+  reached : (es : List Event) → Within rate grain (moments (at es)) → Reached S (start short long m) es
+  unfolding run
+  reached [] h = record { sent = []; good = start_good short long m; made = λ p x. elim x [ ] }
+  reached (e ∷ es) h = let so_far = before e es h in one_event e es so_far (reached es so_far)
+
+-- WHAT THE INVARIANT SAYS of a copy that may be shown
+
+-- a call of show is answered well only where a copy counts
+record Counts (c s : ℕ) (p : Part) : Type 0 where
+  pub kind : Kind
+  pub asked : ℕ
+  pub holds : p.hold ≡ copy kind asked
+  pub valid : c < asked + s
+
+counts : (c s : ℕ) (p : Part) → showing (settled c s p).hold ≡ Ok tt → Counts c s p
+counts c s p = cond_both (stale c s p.hold) (released p) p (λ (x : Part). showing x.hold ≡ Ok tt → Counts c s p) (λ e u. absurd (cc)) (λ e u. of_hold p.hold refl e u)
+  where
+    of_hold : (h : Option InHand) → p.hold ≡ h → stale c s h ≡ false → showing h ≡ Ok tt → Counts c s p
+    of_hold None e z y = absurd (cc)
+    of_hold (Some g) e z y = record { kind = g.kind; asked = g.asked; holds = e; valid = leb-false (g.asked + s) c z }
+
+module _ (S : Setting) (first : Run) (events : List Event) (b : Reached S first events) (terms : setting (run first events).world ≡ S) where
+  abbrev r : Run
+  r = run first events
+
+  abbrev w : World
+  w = r.world
+
+  abbrev G : Good S r b.sent
+  G = b.good
+
+  -- what may be shown came in a loan that is valid
+  record Lent (i q : ℕ) (k : Kind) : Type 0 where
+    pub mem : Memᴰ (Loan i q ((w.borrower i).parts q).ask k ((w.borrower i).copies q)) b.sent
+    pub live : Live S w.now i ((w.borrower i).parts q) ((w.borrower i).parts q).ask
+
+  lent : (i q : ℕ) (k : Kind) → MayShow w i q k → Lent i q k
+  lent i q k m =
+      let h = G.inv.held i q k m.asked m.holds in
+      record { mem = h.0; live = record { last = refl; valid = subst (λ (s : Setting). w.now.hand (suc i) < ((w.borrower i).parts q).asked + s.short) terms (subst (λ (a : ℕ). w.now.hand (suc i) < a + w.short) h.1 m.valid) } }
+
+  fresh : (i q : ℕ) (k : Kind) → MayShow w i q k → ((w.borrower i).copies q ≡ latest q r.applied) × ((w.borrower i).copies q ≡ w.keeper.parts q)
+  fresh i q k m =
+      let l = lent i q k m in
+      let v : (w.borrower i).copies q ≡ w.keeper.parts q = ((G.inv.mail _ l.mem).1 l.live).value in
+      (v ∙ G.inv.newest q, v)
+
+  shown : (i q : ℕ) (v : List ℕ) → (w.borrower i).up ≡ true → (call_effect i q call.Show v w).answer ≡ Ok tt → ((w.borrower i).copies q ≡ latest q r.applied) × ((w.borrower i).copies q ≡ w.keeper.parts q)
+  shown i q v u a = let c = counts (w.now.hand (suc i)) w.short ((w.borrower i).parts q) a in fresh i q c.kind (record { up = u; asked = c.asked; holds = c.holds; valid = c.valid })
+
+  one_writer : (i j q : ℕ) (k l : Kind) → (i ≡ j → ⊥) → MayShow w i q k → MayShow w j q l → (k ≡ Reading) × (l ≡ Reading)
+  one_writer i j q k l ne x y =
+      let a = lent i q k x in
+      let c = lent j q l y in
+      (G.inv.apart i j q _ _ k l _ _ ne a.mem c.mem a.live c.live, G.inv.apart j i q _ _ l k _ _ (λ e. ne (sym e)) c.mem a.mem c.live a.live)
+
+  sent : (x : Msg) → Sent w x → Memᴰ x b.sent
+  sent x s = was_sent w b.sent G.wire G.formed x s
+
+  promised : Promise first events r
+  promised =
+      record {
+        fresh = fresh;
+        shown = shown;
+        one_writer = one_writer;
+        only_writes = λ p h. b.made p (G.inv.puts p h).1;
+        once = G.inv.once;
+        told = λ i q n s. G.inv.mail (In i q n) (sent (In i q n) s);
+        void = λ i q n s. (G.inv.mail (Void i q n) (sent (Void i q n) s)).1;
+        on_disk = G.keeper.on_disk;
+        kept = G.keeper.kept;
+      }
+
+pub whole : Theorem
+whole rate short long grain fits pos m events h = promised (record { short = short; long = long }) (start short long m) events (reached rate short long grain fits pos m events h) (terms_are short long m events)
