@@ -1,9 +1,9 @@
 -- Each event keeps the whole invariant, and a write that it sends is sent by a call that was allowed.
 -- Assumes nothing.
-use Rattle.std.proofs.Common.{◌≡◌, ℕ, suc, ◌+◌, ◌^◌, ◌<◌, Bool, true, false, cond, ◌&&◌, eqb, ltb, leb, List, [], ◌++◌, length, get_or, take, Some, None, Ok, Err, Option, Result, sym, refl, subst, append-nil}
+use Rattle.std.proofs.Common.{◌≡◌, ℕ, suc, ◌+◌, ◌^◌, ◌<◌, Bool, true, false, cond, eqb, ltb, leb, List, [], ◌++◌, get_or, take, Some, None, Ok, Err, Option, Result, sym, refl, subst, append-nil}
 use mathlib.Core.List.Memᴰ
 use mathlib.Core.List.{Memᴰ}
-use Rattle.std.proofs.lemmas.Bool.{cond_both, eqb-true, ltb-true, leb-false, and_parts}
+use Rattle.std.proofs.lemmas.Bool.{cond_both, leb-false}
 use Rattle.message.specs.declared.kind.Kind.{Kind}
 use Rattle.message.specs.declared.kind.Kind.TheVariants.{Reading, Writing}
 use Rattle.message.specs.declared.refusal.Refusal.{Refusal}
@@ -25,7 +25,7 @@ use Rattle.world.proofs.Inv.{Setting, Clocked, each_at}
 use Rattle.world.proofs.Wire.{arrives}
 use Rattle.world.proofs.Good.{setting, Good, on}
 use Rattle.world.proofs.Good as borrowers
-use Rattle.world.proofs.Hears.{call_good, call_torn, heard_good, heard_torn}
+use Rattle.world.proofs.Hears.{callable, call_good, call_torn, heard_good, heard_torn}
 use Rattle.world.proofs.Serves.{NoWrite, none, served_good, served_torn}
 use Rattle.world.proofs.Serves as keepers
 use Rattle.world.proofs.Tick.{tick_good}
@@ -137,29 +137,8 @@ module _ (r : Run) (ms : List Msg) (G : Good (setting r.world) r ms) where
   arrival m n x = subst (λ (bs : List (List ℕ)). read (take n (get_or bs m [])) ≡ Some x → Memᴰ x ms) (sym G.wire) (arrives ms G.formed m n x)
 
   calls : (i q : ℕ) (k : Call) (v : List ℕ) (t : Option ℕ) → can_call i q v w' ≡ true → Then (world.call i q k v t) (called i q k v t w')
-  calls i q k v t e = go t
-    where
-      awake : (w'.borrower i).up ≡ true
-      awake = (and_parts (w'.borrower i).up (ltb i 32 && (ltb q 16384 && eqb (length v) 1024)) e).0
-
-      rest : (ltb i 32 && (ltb q 16384 && eqb (length v) 1024)) ≡ true
-      rest = (and_parts (w'.borrower i).up (ltb i 32 && (ltb q 16384 && eqb (length v) 1024)) e).1
-
-      few : i < 32
-      few = ltb-true i 32 (and_parts (ltb i 32) (ltb q 16384 && eqb (length v) 1024) rest).0
-
-      part : (ltb q 16384 && eqb (length v) 1024) ≡ true
-      part = (and_parts (ltb i 32) (ltb q 16384 && eqb (length v) 1024) rest).1
-
-      here : q < 16384
-      here = ltb-true q 16384 (and_parts (ltb q 16384) (eqb (length v) 1024) part).0
-
-      long : length v ≡ 1024
-      long = eqb-true (length v) 1024 (and_parts (ltb q 16384) (eqb (length v) 1024) part).1
-
-      go : (t : Option ℕ) → Then (world.call i q k v t) (called i q k v t w')
-      go None = record { new = (call_effect i q k v w').sends; good = call_good S r ms G i awake q v few here long k; writes = call_writes r i q v awake k }
-      go (Some n) = silent _ _ (call_torn S r ms G i awake q v few here long k n)
+  calls i q k v None e = let a = callable w' i q v e in record { new = (call_effect i q k v w').sends; good = call_good S r ms G i a.awake q v a.few a.here a.long k; writes = call_writes r i q v a.awake k }
+  calls i q k v (Some n) e = let a = callable w' i q v e in silent _ _ (call_torn S r ms G i a.awake q v a.few a.here a.long k n)
 
   hears : (m n i : ℕ) (t : Option ℕ) → (w'.borrower i).up ≡ true → Then (deliver m n (borrower i) t) (arrived (borrower i) (cut m n w') t w')
   hears m n i None awake = record { new = _; good = heard_good S r ms G i awake (read (cut m n w')) (arrival m n); writes = λ p h. absurd (heard_none i (read (cut m n w')) (w'.borrower i) p h) }

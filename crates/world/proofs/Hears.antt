@@ -1,8 +1,8 @@
 -- A borrower's calls and messages, whole or torn, keep the whole invariant.
 -- Assumes nothing.
-use Rattle.std.proofs.Common.{◌≡◌, ℕ, suc, ◌<◌, Bool, true, false, cond, eqb, List, [], ◌∷◌, ◌++◌, length, Some, None, Ok, Option, sym, refl, subst, arith}
+use Rattle.std.proofs.Common.{◌≡◌, ℕ, suc, ◌<◌, Bool, true, false, cond, ◌&&◌, eqb, ltb, List, [], ◌∷◌, ◌++◌, length, Some, None, Ok, Option, sym, refl, subst, arith}
 use mathlib.Core.List.{Memᴰ}
-use Rattle.std.proofs.lemmas.Bool.{eqb-true}
+use Rattle.std.proofs.lemmas.Bool.{eqb-true, ltb-true, and_parts}
 use Rattle.part.specs.Parts.{at_1}
 use Rattle.message.specs.declared.kind.Kind.{Kind}
 use Rattle.message.specs.Format.{Msg, Ask, Loan, Write, In, Void, Recall, Back}
@@ -16,7 +16,7 @@ use Rattle.borrower.specs.Outcomes.{Effect, call_part, lent_part, taken, told, t
 use Rattle.borrower.specs.Outcomes.{records_of as numbers_due}
 use Rattle.borrower.specs.Used.{Near, on_file}
 use Rattle.borrower.proofs.Used.{covered, Small}
-use Rattle.world.specs.World.{World, Borrower, with_borrower, with_sent, borrower_down, torn_file, after_call}
+use Rattle.world.specs.World.{World, Borrower, with_borrower, with_sent, borrower_down, torn_file, can_call, after_call}
 use Rattle.world.specs.World as world
 use Rattle.world.specs.Runs.{Run}
 use Rattle.world.proofs.Inv.{Setting, Inv}
@@ -24,6 +24,20 @@ use Rattle.world.proofs.View.{view, stepped}
 use Rattle.world.proofs.Calls.{still, ask_inv, write_inv, forget_inv, recall_inv, loan_inv}
 use Rattle.world.proofs.Good.{Good, on, idle_good, idle_torn, step_good, step_torn}
 use Rattle.world.proofs.Wire.{near_small, call_formed}
+
+-- what it takes to be called
+pub record Callable (w : World) (i q : ℕ) (v : List ℕ) : Type 0 where
+  pub awake : (w.borrower i).up ≡ true
+  pub few : i < 32
+  pub here : q < 16384
+  pub long : length v ≡ 1024
+
+pub callable : (w : World) (i q : ℕ) (v : List ℕ) → can_call i q v w ≡ true → Callable w i q v
+callable w i q v e =
+    let a = and_parts (w.borrower i).up (ltb i 32 && (ltb q 16384 && eqb (length v) 1024)) e in
+    let b = and_parts (ltb i 32) (ltb q 16384 && eqb (length v) 1024) a.1 in
+    let d = and_parts (ltb q 16384) (eqb (length v) 1024) b.1 in
+    record { awake = a.0; few = ltb-true i 32 b.0; here = ltb-true q 16384 d.0; long = eqb-true (length v) 1024 d.1 }
 
 small_of : (g : OnFile) (p : Part) → Near g p → Small p
 small_of g p n = let z = near_small g p n in (n.ask_last, omega (arith, n.write, z.1))

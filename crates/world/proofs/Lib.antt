@@ -14,3 +14,4 @@ mod Time
 mod Tick
 mod Events
 mod Whole
+mod Comes

@@ -1,6 +1,6 @@
 -- The theorem: what is promised holds of every run.
 -- Assumes nothing.
-use Rattle.std.proofs.Common.{◌≡◌, ℕ, suc, ◌+◌, ◌<◌, true, false, ◌⊎◌, List, [], ◌∷◌, ◌++◌, Some, None, Ok, Option, sym, refl, ap, ◌∙◌, subst, inl, inr}
+use Rattle.std.proofs.Common.{◌≡◌, ℕ, zero, suc, ◌+◌, ◌<◌, true, false, ◌⊎◌, List, [], ◌∷◌, ◌++◌, length, Some, None, Ok, Option, sym, refl, ap, ◌∙◌, subst, inl, inr, arith}
 use mathlib.Core.List.Memᴰ
 use mathlib.Core.List.{Memᴰ}
 use Rattle.std.proofs.lemmas.Bool.{cond_both, leb-false}
@@ -15,11 +15,15 @@ use Rattle.borrower.specs.declared.outcome.Call.TheVariants as call
 use Rattle.borrower.specs.Steps.{copy, stale, released, settled, showing}
 use Rattle.world.specs.World.{World, Event, call_effect}
 use Rattle.world.specs.Runs.{Put, Run, moments, next, run, start}
-use Rattle.world.specs.Promise.{MayShow, Sent, Made, Promise, Theorem, latest}
+use Rattle.world.specs.Promise.{Unhindered, to_write, MayShow, Sent, Made, Promise, Theorem, latest}
 use Rattle.world.proofs.Inv.{Setting, Clocked, Live}
 use Rattle.world.proofs.Wire.{was_sent}
 use Rattle.world.proofs.Good.{setting, Good}
 use Rattle.world.proofs.Time.{same_terms, time_goes_on, back, clocked}
+use Rattle.world.proofs.Files.{recovered_long}
+use Rattle.world.proofs.Hears.{callable}
+use Rattle.world.proofs.Comes.{six}
+use Rattle.lender.specs.Replay.{Memory}
 use Rattle.world.proofs.Tick.{start_good}
 use Rattle.world.proofs.Events.{message, After, event_good}
 
@@ -86,7 +90,7 @@ counts c s p = cond_both (stale c s p.hold) (released p) p (λ (x : Part). showi
     of_hold None e z y = absurd (cc)
     of_hold (Some g) e z y = record { kind = g.kind; asked = g.asked; holds = e; valid = leb-false (g.asked + s) c z }
 
-module _ (S : Setting) (first : Run) (events : List Event) (b : Reached S first events) (terms : setting (run first events).world ≡ S) where
+module _ (S : Setting) (first : Run) (events : List Event) (b : Reached S first events) (terms : setting (run first events).world ≡ S) (short_pos : 0 < S.short) (long_pos : 0 < S.long) where
   abbrev r : Run
   r = run first events
 
@@ -124,6 +128,14 @@ module _ (S : Setting) (first : Run) (events : List Event) (b : Reached S first 
   sent : (x : Msg) → Sent w x → Memᴰ x b.sent
   sent x s = was_sent w b.sent G.wire G.formed x s
 
+  can_write : (i q : ℕ) (v : List ℕ) → Unhindered w i q v → (n : ℕ) × ((run r (to_write i q v w)).applied ≡ record { who = i; place = q; number = n; bytes = v } ∷ r.applied)
+  can_write i q v u =
+      let a = callable w i q v u.can in
+      let known = G.inv.known i q in
+      (((w.borrower i).parts q).write + 1,
+      six i q v a.few a.here a.long r u a.awake (subst (λ (s : Setting). 0 < s.short) (sym terms) short_pos) (subst (λ (s : Setting). 0 < s.long) (sym terms) long_pos)
+      (subst (λ (s : Memory). length (s.parts q) ≡ 1024) (sym G.keeper.kept) (recovered_long w.keeper.file q a.here)) known.0.written known.1.written)
+
   promised : Promise first events r
   promised =
       record {
@@ -136,7 +148,13 @@ module _ (S : Setting) (first : Run) (events : List Event) (b : Reached S first 
         void = λ i q n s. (G.inv.mail (Void i q n) (sent (Void i q n) s)).1;
         on_disk = G.keeper.on_disk;
         kept = G.keeper.kept;
+        can_write = can_write;
       }
 
+-- terms that fit are not 0
+lasts : (rate short long : ℕ) → Fits rate short long → (0 < short) × (0 < long)
+lasts rate short zero f = absurd (omega (arith, f.3))
+lasts rate short (suc l) f = (omega (arith, f.1), omega arith)
+
 pub whole : Theorem
-whole rate short long grain fits pos m events h = promised (record { short = short; long = long }) (start short long m) events (reached rate short long grain fits pos m events h) (terms_are short long m events)
+whole rate short long grain fits pos m events h = promised (record { short = short; long = long }) (start short long m) events (reached rate short long grain fits pos m events h) (terms_are short long m events) (lasts rate short long fits).0 (lasts rate short long fits).1

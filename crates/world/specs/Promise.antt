@@ -1,6 +1,6 @@
 -- What is promised of every run.
 -- Assumes nothing.
-use Rattle.std.specs.Prelude.{◌≡◌, ℕ, suc, ◌+◌, ◌<◌, true, cond, List, [], ◌∷◌, ◌++◌, Some, None, Ok, ◌==◌, ◌≢◌}
+use Rattle.std.specs.Prelude.{◌≡◌, ℕ, suc, ◌+◌, ◌^◌, ◌<◌, ◌≤◌, true, cond, List, [], ◌∷◌, ◌++◌, length, count_by, Some, None, Ok, ◌==◌, ◌≢◌}
 use mathlib.Core.List.{Memᴰ}
 use Rattle.part.specs.Parts.{blank}
 use Rattle.clock.specs.Moments.{Moment, Within}
@@ -11,10 +11,12 @@ use Rattle.message.specs.Format.{Msg, In, Void}
 use Rattle.message.specs.Reading.{read}
 use Rattle.journal.specs.declared.record.Owner.TheVariants as owner
 use Rattle.journal.specs.Records.{records_of}
+use Rattle.lease.specs.declared.lease.Lease.{Lease}
+use Rattle.lease.specs.Leases.{running}
 use Rattle.lender.specs.Replay.{memory}
-use Rattle.borrower.specs.declared.outcome.Call.TheVariants.{Show, Write}
+use Rattle.borrower.specs.declared.outcome.Call.TheVariants.{Ask, Show, Write, Forget}
 use Rattle.borrower.specs.Steps.{copy}
-use Rattle.world.specs.World.{World, Event, call, recovered, call_effect}
+use Rattle.world.specs.World.{World, Event, keeper, borrower, call, deliver, can_call, recovered, call_effect}
 use Rattle.world.specs.Runs.{Put, puts, Run, moments, run, start}
 
 -- the bytes of the newest of these writes of a part; zeros where there is none
@@ -52,6 +54,30 @@ pub record Made (r : Run) (events : List Event) (p : Put) : Type 0 where
   pub allowed : MayShow (run r before).world p.who p.place Writing
   pub number : p.number ≡ (((run r before).world.borrower p.who).parts p.place).write + 1
 
+-- nothing hinders borrower i from writing the part at q: it and the keeper are up, the grace period is over, no lease of another for
+-- the part runs, and the table of leases, the numbers and the clocks have room
+pub record Unhindered (w : World) (i q : ℕ) (v : List ℕ) : Type 0 where
+  pub can : can_call i q v w ≡ true
+  pub keeper : w.keeper.up ≡ true
+  pub loud : w.keeper.book.quiet ≤ w.now.hand 0
+  pub alone : (l : Lease) → Memᴰ l w.keeper.book.leases → l.place ≡ q → l.who ≢ i → l.until ≤ w.now.hand 0
+  pub table : count_by (running (w.now.hand 0)) w.keeper.book.leases < 4096
+  pub asks : ((w.borrower i).parts q).ask + 1 < 4294967294
+  pub writes : ((w.borrower i).parts q).write < 4294967295
+  pub lent : w.now.hand 0 + w.keeper.book.long < 2 ^ 64
+  pub valid : w.now.hand (suc i) + w.short < 2 ^ 64
+
+-- Borrower i forgets its copy and asks, the ask and the loan arrive, it writes, the write arrives: the newest event first.
+-- No time passes, and nobody but the keeper and i does anything. No message is longer than 2,000 bytes.
+abbrev pub to_write : (who place : ℕ) (bytes : List ℕ) → World → List Event
+to_write i q v w =
+    deliver (length w.sent + 2) 2000 keeper None ∷
+    call i q Write v None ∷
+    deliver (length w.sent + 1) 2000 (borrower i) None ∷
+    deliver (length w.sent) 2000 keeper None ∷
+    call i q (Ask Writing) v None ∷
+    call i q Forget v None ∷ []
+
 pub record Promise (first : Run) (events : List Event) (r : Run) : Type 0 where
   -- a copy that may be shown is what the newest write applied anywhere has left, and that is what the keeper has
   pub fresh : (i q : ℕ) (k : Kind) → MayShow r.world i q k →
@@ -72,6 +98,9 @@ pub record Promise (first : Run) (events : List Event) (r : Run) : Type 0 where
   pub on_disk : r.applied ≡ puts (records_of owner.Keeper r.world.keeper.file) []
   -- what the keeper has is what its journal replays to
   pub kept : memory r.world.keeper.book r.world.keeper.parts ≡ recovered r.world.keeper.file
+  -- whom nothing hinders gets to write: these six events end with its write as the newest applied
+  pub can_write : (i q : ℕ) (v : List ℕ) → Unhindered r.world i q v →
+      (n : ℕ) × ((run r (to_write i q v r.world)).applied ≡ record { who = i; place = q; number = n; bytes = v } ∷ r.applied)
 
 -- THE THEOREM. Terms that fit, any grain of true time, any first readings, any events, in any order:
 -- while the clocks have kept within their stated error, all of it holds.
