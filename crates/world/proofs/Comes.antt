@@ -30,7 +30,7 @@ use Rattle.borrower.specs.Outcomes.{Effect, call_part, lent_part, turned_away, a
 use Rattle.borrower.specs.Outcomes as does
 use Rattle.world.specs.World.{World, Borrower, Node, keeper, borrower, Event, deliver, can_call, called, after_call, arrived, after_heard, keeper_effect, borrower_effect, cut}
 use Rattle.world.specs.World as world
-use Rattle.world.specs.Runs.{Put, puts, Run, next, run}
+use Rattle.world.specs.Runs.{Put, puts, Run, moments, next, run}
 use Rattle.world.specs.Promise.{Unhindered, to_write}
 use Rattle.world.proofs.Good.{on}
 use Rattle.world.proofs.Leases.{at_here, any_one}
@@ -270,21 +270,22 @@ module _ (i q : ℕ) (v : List ℕ) (few : i < 32) (small : q < 16384) (long : l
         ap (λ (o : Option Msg). puts (heard_effect C o r3.world.keeper.book r3.world.keeper.parts).records r3.applied) read5 ∙
         ap (λ (a : WriteAnswer). puts (write_records i q (p.write + 1) v a) r3.applied) answered ∙ ap (λ (h : List Put). put ∷ h) applied3
 
-    pub six : (run r (to_write i q v w)).applied ≡ put ∷ r.applied
+    e1 : next r (world.call i q call.Forget v None) ≡ r1
+    e1 = call_step r call.Forget awake
+
+    e2 : next (next r (world.call i q call.Forget v None)) (world.call i q (call.Ask Writing) v None) ≡ r2
+    e2 = ap (λ (y : Run). next y (world.call i q (call.Ask Writing) v None)) e1 ∙ call_step r1 (call.Ask Writing) s1.awake
+
+    e3 : next (next (next r (world.call i q call.Forget v None)) (world.call i q (call.Ask Writing) v None)) (deliver (length w.sent) 2000 keeper None) ≡ r3
+    e3 = ap (λ (y : Run). next y (deliver (length w.sent) 2000 keeper None)) e2 ∙ keeper_step r2 (length w.sent) U.keeper
+
+    e4 : next (next (next (next r (world.call i q call.Forget v None)) (world.call i q (call.Ask Writing) v None)) (deliver (length w.sent) 2000 keeper None)) (deliver (length w.sent + 1) 2000 (borrower i) None) ≡ r4
+    e4 = ap (λ (y : Run). next y (deliver (length w.sent + 1) 2000 (borrower i) None)) e3 ∙ borrower_step r3 (length w.sent + 1) s2.awake
+
+    e5 : next (next (next (next (next r (world.call i q call.Forget v None)) (world.call i q (call.Ask Writing) v None)) (deliver (length w.sent) 2000 keeper None)) (deliver (length w.sent + 1) 2000 (borrower i) None)) (world.call i q call.Write v None) ≡ r5
+    e5 = ap (λ (y : Run). next y (world.call i q call.Write v None)) e4 ∙ call_step r4 call.Write s4.awake
+
+    -- and no time has passed
+    pub six : ((run r (to_write i q v w)).applied ≡ put ∷ r.applied) × (moments (run r (to_write i q v w)) ≡ moments r)
     unfolding run
-    six = ap (λ (y : Run). (next y (deliver (length w.sent + 2) 2000 keeper None)).applied) e5 ∙ last
-      where
-        e1 : next r (world.call i q call.Forget v None) ≡ r1
-        e1 = call_step r call.Forget awake
-
-        e2 : next (next r (world.call i q call.Forget v None)) (world.call i q (call.Ask Writing) v None) ≡ r2
-        e2 = ap (λ (y : Run). next y (world.call i q (call.Ask Writing) v None)) e1 ∙ call_step r1 (call.Ask Writing) s1.awake
-
-        e3 : next (next (next r (world.call i q call.Forget v None)) (world.call i q (call.Ask Writing) v None)) (deliver (length w.sent) 2000 keeper None) ≡ r3
-        e3 = ap (λ (y : Run). next y (deliver (length w.sent) 2000 keeper None)) e2 ∙ keeper_step r2 (length w.sent) U.keeper
-
-        e4 : next (next (next (next r (world.call i q call.Forget v None)) (world.call i q (call.Ask Writing) v None)) (deliver (length w.sent) 2000 keeper None)) (deliver (length w.sent + 1) 2000 (borrower i) None) ≡ r4
-        e4 = ap (λ (y : Run). next y (deliver (length w.sent + 1) 2000 (borrower i) None)) e3 ∙ borrower_step r3 (length w.sent + 1) s2.awake
-
-        e5 : next (next (next (next (next r (world.call i q call.Forget v None)) (world.call i q (call.Ask Writing) v None)) (deliver (length w.sent) 2000 keeper None)) (deliver (length w.sent + 1) 2000 (borrower i) None)) (world.call i q call.Write v None) ≡ r5
-        e5 = ap (λ (y : Run). next y (world.call i q call.Write v None)) e4 ∙ call_step r4 call.Write s4.awake
+    six = (ap (λ (y : Run). (next y (deliver (length w.sent + 2) 2000 keeper None)).applied) e5 ∙ last, ap (λ (y : Run). moments (next y (deliver (length w.sent + 2) 2000 keeper None))) e5)

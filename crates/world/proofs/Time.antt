@@ -1,10 +1,10 @@
 -- Time goes on only by ticks, clocks don't go back, and the terms stay as they are.
 -- Assumes nothing.
-use Rattle.std.proofs.Common.{◌≡◌, ℕ, ◌+◌, ◌-◌, ◌^◌, ◌<◌, true, false, ltb, leb, ◌⊎◌, List, [], ◌∷◌, Some, None, Option, sym, refl, ap, subst, inl, inr, arith}
+use Rattle.std.proofs.Common.{◌≡◌, ℕ, ◌+◌, ◌-◌, ◌*◌, ◌^◌, ◌<◌, ◌≤◌, true, false, ltb, leb, ◌⊎◌, List, [], ◌∷◌, Some, None, Option, sym, refl, ap, subst, inl, inr, mul-le-mul_right, arith}
 use mathlib.Core.List.{Memᴰ}
 use native.Mathlib.Nat.{sub_self}
 use Rattle.std.proofs.lemmas.Bool.{cond_both}
-use Rattle.clock.specs.Moments.{Moment, Passing, after, Keeps, Between, Pairs, Within, Later}
+use Rattle.clock.specs.Moments.{million, Moment, Passing, after, Keeps, Between, Pairs, Within, Later}
 use Rattle.clock.specs.Terms.{Fits}
 use Rattle.clock.proofs.Safe.{terms_safe}
 use Rattle.clock.proofs.Standing.{earlier}
@@ -21,6 +21,7 @@ use Rattle.borrower.specs.declared.outcome.Call.{Call}
 use Rattle.world.specs.World.{World, Node, keeper, borrower, Event, tick, call, deliver, stop, up, can_call, called, is_up, arrived, cut, stopped, risen_from, with_keeper, with_borrower, keeper_up, borrower_up, long_of, step}
 use Rattle.world.specs.Runs.{Run, moments, next, run, start}
 use Rattle.world.specs.Laws.{TimeGoesOn}
+use Rattle.world.specs.Promise.{pause}
 use Rattle.world.proofs.Inv.{Clocked}
 use Rattle.world.proofs.Good.{setting}
 
@@ -129,3 +130,24 @@ clocked rate short long grain fits pos now past h g =
     between : (t : Moment) → Memᴰ t (now ∷ past) → Between rate grain t now
     between t (Memᴰ.head e) = subst (λ (x : Moment). Between rate grain x now) (sym e) (λ i. same_keeps rate grain now.true (now.hand i))
     between t (Memᴰ.tail m) = h.0 t m
+
+-- CLOCKS THAT GO ON EXACTLY keep within their error
+more_slow : (a b d g e f : ℕ) → e ≤ f → a * e ≤ (b + 1) * f * g → (a + d * g) * e ≤ (b + d + 1) * f * g
+more_slow a b d g e f le h = let k : e * (d * g) ≤ f * (d * g) = mul-le-mul_right (d * g) le in omega (arith, k, h)
+
+more_fast : (a b d g e f : ℕ) → f ≤ e → b * f * g ≤ a * e + f * g → (b + d) * f * g ≤ (a + d * g) * e + f * g
+more_fast a b d g e f le h = let k : f * (d * g) ≤ e * (d * g) = mul-le-mul_right (d * g) le in omega (arith, k, h)
+
+exactly : (rate grain d o n x y : ℕ) → o ≤ n → x ≤ y → Keeps rate grain (n - o) (y - x) → Keeps rate grain (n + d * grain - o) (y + d - x)
+exactly rate grain d o n x y le le' k =
+    let t : n + d * grain - o ≡ n - o + d * grain = omega (arith, le) in
+    let s : y + d - x ≡ y - x + d = omega (arith, le') in
+    subst (λ (z : ℕ). Keeps rate grain z (y + d - x)) (sym t) (subst (Keeps rate grain (n - o + d * grain)) (sym s) (record { slow = more_slow (n - o) (y - x) d grain (million - rate) million (omega arith) k.slow; fast = more_fast (n - o) (y - x) d grain (million + rate) million (omega arith) k.fast }))
+
+pub paused : (rate grain d : ℕ) (r : Run) → Pairs Later (moments r) → Within rate grain (moments r) → Within rate grain (moments (next r (pause grain d)))
+unfolding Pairs
+paused rate grain d r g h = ((λ o z j. let l = earlier r.world.now r.past g o z in exactly rate grain d o.true r.world.now.true (o.hand j) (r.world.now.hand j) l.true (l.hand j) (kept o z j)), h)
+  where
+    kept : (o : Moment) → Memᴰ o (moments r) → Between rate grain o r.world.now
+    kept o (Memᴰ.head e) = subst (λ (x : Moment). Between rate grain x r.world.now) (sym e) (λ j. same_keeps rate grain r.world.now.true (r.world.now.hand j))
+    kept o (Memᴰ.tail z) = h.0 o z

@@ -15,11 +15,11 @@ use Rattle.borrower.specs.declared.outcome.Call.TheVariants as call
 use Rattle.borrower.specs.Steps.{copy, stale, released, settled, showing}
 use Rattle.world.specs.World.{World, Event, call_effect}
 use Rattle.world.specs.Runs.{Put, Run, moments, next, run, start}
-use Rattle.world.specs.Promise.{Unhindered, to_write, MayShow, Sent, Made, Promise, Theorem, latest}
+use Rattle.world.specs.Promise.{Unhindered, to_write, pause, SilenceEnds, Assumed, MayShow, Sent, Made, Promise, Theorem, latest}
 use Rattle.world.proofs.Inv.{Setting, Clocked, Live}
 use Rattle.world.proofs.Wire.{was_sent}
 use Rattle.world.proofs.Good.{setting, Good}
-use Rattle.world.proofs.Time.{same_terms, time_goes_on, back, clocked}
+use Rattle.world.proofs.Time.{same_terms, time_goes_on, back, clocked, paused}
 use Rattle.world.proofs.Files.{recovered_long}
 use Rattle.world.proofs.Hears.{callable}
 use Rattle.world.proofs.Comes.{six}
@@ -128,13 +128,13 @@ module _ (S : Setting) (first : Run) (events : List Event) (b : Reached S first 
   sent : (x : Msg) → Sent w x → Memᴰ x b.sent
   sent x s = was_sent w b.sent G.wire G.formed x s
 
-  can_write : (i q : ℕ) (v : List ℕ) → Unhindered w i q v → (n : ℕ) × ((run r (to_write i q v w)).applied ≡ record { who = i; place = q; number = n; bytes = v } ∷ r.applied)
-  can_write i q v u =
+  gets_to_write : (i q : ℕ) (v : List ℕ) → Unhindered w i q v →
+      ((run r (to_write i q v w)).applied ≡ record { who = i; place = q; number = ((w.borrower i).parts q).write + 1; bytes = v } ∷ r.applied) × (moments (run r (to_write i q v w)) ≡ moments r)
+  gets_to_write i q v u =
       let a = callable w i q v u.can in
       let known = G.inv.known i q in
-      (((w.borrower i).parts q).write + 1,
       six i q v a.few a.here a.long r u a.awake (subst (λ (s : Setting). 0 < s.short) (sym terms) short_pos) (subst (λ (s : Setting). 0 < s.long) (sym terms) long_pos)
-      (subst (λ (s : Memory). length (s.parts q) ≡ 1024) (sym G.keeper.kept) (recovered_long w.keeper.file q a.here)) known.0.written known.1.written)
+      (subst (λ (s : Memory). length (s.parts q) ≡ 1024) (sym G.keeper.kept) (recovered_long w.keeper.file q a.here)) known.0.written known.1.written
 
   promised : Promise first events r
   promised =
@@ -148,7 +148,7 @@ module _ (S : Setting) (first : Run) (events : List Event) (b : Reached S first 
         void = λ i q n s. (G.inv.mail (Void i q n) (sent (Void i q n) s)).1;
         on_disk = G.keeper.on_disk;
         kept = G.keeper.kept;
-        can_write = can_write;
+        can_write = λ i q v u. (_, (gets_to_write i q v u).0);
       }
 
 -- terms that fit are not 0
@@ -156,5 +156,35 @@ lasts : (rate short long : ℕ) → Fits rate short long → (0 < short) × (0 <
 lasts rate short zero f = absurd (omega (arith, f.3))
 lasts rate short (suc l) f = (omega (arith, f.1), omega arith)
 
+module _ (rate short long grain : ℕ) (m : Moment) (events : List Event) (given : Assumed rate short long grain m events) where
+  abbrev r' : Run
+  r' = run (start short long m) events
+
+  reaches : Reached (record { short = short; long = long }) (start short long m) events
+  reaches = reached rate short long grain given.terms given.units m events given.clocks
+
+  promise : Promise (start short long m) events r'
+  promise = let l = lasts rate short long given.terms in promised (record { short = short; long = long }) (start short long m) events reaches (terms_are short long m events) l.0 l.1
+
+  in_time : (i q : ℕ) (v : List ℕ) → Unhindered r'.world i q v →
+      ((run r' (to_write i q v r'.world)).applied ≡ record { who = i; place = q; number = ((r'.world.borrower i).parts q).write + 1; bytes = v } ∷ r'.applied) × (moments (run r' (to_write i q v r'.world)) ≡ moments r')
+  in_time = let l = lasts rate short long given.terms in gets_to_write (record { short = short; long = long }) (start short long m) events reaches (terms_are short long m events) l.0 l.1
+
 pub whole : Theorem
-whole rate short long grain fits pos m events h = promised (record { short = short; long = long }) (start short long m) events (reached rate short long grain fits pos m events h) (terms_are short long m events) (lasts rate short long fits).0 (lasts rate short long fits).1
+whole = promise
+
+-- WAITING
+still_given : (rate short long grain : ℕ) (m : Moment) (events : List Event) (d : ℕ) → Assumed rate short long grain m events → Assumed rate short long grain m (pause grain d ∷ events)
+unfolding run
+still_given rate short long grain m events d g = record { terms = g.terms; units = g.units; clocks = paused rate grain d (run (start short long m) events) (time_goes_on short long m events) g.clocks }
+
+same_writes : (short long grain : ℕ) (m : Moment) (events : List Event) (d : ℕ) → (run (start short long m) (pause grain d ∷ events)).applied ≡ (run (start short long m) events).applied
+unfolding run
+same_writes short long grain m events d = refl
+
+pub silence : SilenceEnds
+silence rate short long grain m events g i q d v u =
+    let later = still_given rate short long grain m events d g in
+    let x = in_time rate short long grain m (pause grain d ∷ events) later i q v u in
+    let n = (((run (start short long m) (pause grain d ∷ events)).world.borrower i).parts q).write + 1 in
+    (n, record { applied = x.0 ∙ ap (λ (h : List Put). record { who = i; place = q; number = n; bytes = v } ∷ h) (same_writes short long grain m events d); clocks = subst (Within rate grain) (sym x.1) later.clocks })

@@ -1,6 +1,6 @@
 -- What is promised of every run.
 -- Assumes nothing.
-use Rattle.std.specs.Prelude.{◌≡◌, ℕ, suc, ◌+◌, ◌^◌, ◌<◌, ◌≤◌, true, cond, List, [], ◌∷◌, ◌++◌, length, count_by, Some, None, Ok, ◌==◌, ◌≢◌}
+use Rattle.std.specs.Prelude.{◌≡◌, ℕ, suc, ◌+◌, ◌*◌, ◌^◌, ◌<◌, ◌≤◌, true, cond, List, [], ◌∷◌, ◌++◌, length, count_by, Some, None, Ok, ◌==◌, ◌≢◌}
 use mathlib.Core.List.{Memᴰ}
 use Rattle.part.specs.Parts.{blank}
 use Rattle.clock.specs.Moments.{Moment, Within}
@@ -16,7 +16,7 @@ use Rattle.lease.specs.Leases.{running}
 use Rattle.lender.specs.Replay.{memory}
 use Rattle.borrower.specs.declared.outcome.Call.TheVariants.{Ask, Show, Write, Forget}
 use Rattle.borrower.specs.Steps.{copy}
-use Rattle.world.specs.World.{World, Event, keeper, borrower, call, deliver, can_call, recovered, call_effect}
+use Rattle.world.specs.World.{World, Event, keeper, borrower, tick, call, deliver, can_call, recovered, call_effect}
 use Rattle.world.specs.Runs.{Put, puts, Run, moments, run, start}
 
 -- the bytes of the newest of these writes of a part; zeros where there is none
@@ -102,9 +102,30 @@ pub record Promise (first : Run) (events : List Event) (r : Run) : Type 0 where
   pub can_write : (i q : ℕ) (v : List ℕ) → Unhindered r.world i q v →
       (n : ℕ) × ((run r (to_write i q v r.world)).applied ≡ record { who = i; place = q; number = n; bytes = v } ∷ r.applied)
 
--- THE THEOREM. Terms that fit, any grain of true time, any first readings, any events, in any order:
--- while the clocks have kept within their stated error, all of it holds.
+-- ALL THAT IS ASSUMED: the terms fit, a millisecond of true time is some units long, and the clocks have kept within their stated error
+pub record Assumed (rate short long grain : ℕ) (m : Moment) (events : List Event) : Type 0 where
+  pub terms : Fits rate short long
+  pub units : 0 < grain
+  pub clocks : Within rate grain (moments (run (start short long m) events))
+
+-- THE THEOREM, for any first readings and any events, in any order.
 abbrev pub Theorem : Type 0
 Theorem =
-    (rate short long grain : ℕ) → Fits rate short long → 0 < grain → (m : Moment) (events : List Event) →
-    Within rate grain (moments (run (start short long m) events)) → Promise (start short long m) events (run (start short long m) events)
+    (rate short long grain : ℕ) (m : Moment) (events : List Event) → Assumed rate short long grain m events → Promise (start short long m) events (run (start short long m) events)
+
+-- d milliseconds pass, and every clock goes on by just that
+abbrev pub pause : (grain d : ℕ) → Event
+pause grain d = tick (record { true = d * grain; hand = λ j. d })
+
+-- between two runs this write was applied, and the clocks have kept within their error up to the second
+pub record Written (rate grain : ℕ) (r s : Run) (p : Put) : Type 0 where
+  pub applied : s.applied ≡ p ∷ r.applied
+  pub clocks : Within rate grain (moments s)
+
+-- NOBODY IS KEPT FROM WRITING BY SILENCE. After any such run a borrower can wait: clocks can go on within their error, for as long as one
+-- wants. If nothing hinders it then, because the leases of those who don't answer have ended, it gets to write, and no more time passes.
+abbrev pub SilenceEnds : Type 0
+SilenceEnds =
+    (rate short long grain : ℕ) (m : Moment) (events : List Event) → Assumed rate short long grain m events →
+    (i q d : ℕ) (v : List ℕ) → Unhindered (run (start short long m) (pause grain d ∷ events)).world i q v →
+    (n : ℕ) × Written rate grain (run (start short long m) events) (run (run (start short long m) (pause grain d ∷ events)) (to_write i q v (run (start short long m) (pause grain d ∷ events)).world)) (record { who = i; place = q; number = n; bytes = v })

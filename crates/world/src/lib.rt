@@ -2,7 +2,7 @@
 #![tactic(auto)]
 
 ghost use Rattle.world.specs.Laws.{TimeGoesOn};
-ghost use Rattle.world.specs.Promise.{Theorem};
+ghost use Rattle.world.specs.Promise.{Theorem, SilenceEnds};
 
 /// Names the law that in every run the true time and all clocks only go on.
 pub fn time_goes_on()
@@ -13,4 +13,10 @@ pub fn time_goes_on()
 /// holds while the clocks have kept within their stated error.
 pub fn keeps_promise()
     ensures { Theorem }
+{}
+
+/// Names the theorem that nobody is kept from writing by silence: a borrower can wait, the clocks within their error, and once the leases
+/// of those who don't answer have ended it gets to write.
+pub fn silence_ends()
+    ensures { SilenceEnds }
 {}
