@@ -15,3 +15,4 @@ mod Tick
 mod Events
 mod Whole
 mod Comes
+mod Cases

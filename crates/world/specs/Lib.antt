@@ -2,3 +2,4 @@ pub mod World
 pub mod Runs
 pub mod Promise
 pub mod Laws
+pub mod Cases

@@ -1,6 +1,7 @@
 // The world of one keeper, its borrowers, the network, the journals and the true time, and what is true of all its runs.
 #![tactic(auto)]
 
+ghost use Rattle.world.specs.Cases.{AllCome, cases};
 ghost use Rattle.world.specs.Laws.{TimeGoesOn};
 ghost use Rattle.world.specs.Promise.{Theorem, SilenceEnds};
 
@@ -19,4 +20,9 @@ pub fn keeps_promise()
 /// of those who don't answer have ended it gets to write.
 pub fn silence_ends()
     ensures { SilenceEnds }
+{}
+
+/// Names the table of cases: some runs, event by event, and what is answered to each.
+pub fn cases_come_out()
+    ensures { AllCome cases }
 {}
