@@ -123,14 +123,16 @@ module _ (r : Run) (ms : List Msg) (G : Good (setting r.world) r ms) where
   abbrev Then : Event → World → Type 0
   Then e x = After S r ms e (on r x)
 
+  -- nothing is sent
   silent : (e : Event) (r' : Run) → Good S r' (ms ++ []) → After S r ms e r'
   silent e r' g = record { new = []; good = g; writes = λ p h. elim h [ ] }
 
-  silent' : (e : Event) (r' : Run) → Good S r' ms → After S r ms e r'
-  silent' e r' g = silent e r' (subst (Good S r') (sym (append-nil ms)) g)
+  -- nothing is sent, of an invariant of the messages as they were
+  unsaid : (e : Event) (r' : Run) → Good S r' ms → After S r ms e r'
+  unsaid e r' g = silent e r' (subst (Good S r') (sym (append-nil ms)) g)
 
   nothing : (e : Event) → Then e w'
-  nothing e = silent' e (on r w') G
+  nothing e = unsaid e (on r w') G
 
   -- what arrives was sent
   arrival : (m n : ℕ) (x : Msg) → read (cut m n w') ≡ Some x → Memᴰ x ms
@@ -148,11 +150,11 @@ module _ (r : Run) (ms : List Msg) (G : Good (setting r.world) r ms) where
     serves : (m n : ℕ) (t : Option ℕ) → w'.keeper.up ≡ true →
         After S r ms (deliver m n keeper t) (record { world = arrived keeper (cut m n w') t w'; past = r.past; applied = puts (whole (keeper_effect (cut m n w') w').records t) r.applied })
     serves m n None awake = record { new = _; good = served_good r ms G C awake (cut m n w') (arrival m n); writes = λ p h. absurd (each_at NoWrite _ (none (w'.now.hand 0) (read (cut m n w')) w'.keeper.book w'.keeper.parts) _ h tt) }
-    serves m n (Some l) awake = silent' _ _ (served_torn r ms G C awake (cut m n w') (arrival m n) l)
+    serves m n (Some l) awake = unsaid _ _ (served_torn r ms G C awake (cut m n w') (arrival m n) l)
 
     -- EVERY EVENT
     pub event_good : (e : Event) → After S r ms e (next r e)
-    event_good (tick x) = silent' _ _ (tick_good S r ms G x)
+    event_good (tick x) = unsaid _ _ (tick_good S r ms G x)
     event_good (world.call i q k v t) = cond_both (can_call i q v w') (called i q k v t w') w' (Then (world.call i q k v t)) (calls i q k v t) (λ e. nothing _)
     event_good (deliver m n keeper t) = go w'.keeper.up refl
       where
@@ -161,9 +163,9 @@ module _ (r : Run) (ms : List Msg) (G : Good (setting r.world) r ms) where
         go true e = serves m n t e
         go false e = nothing _
     event_good (deliver m n (borrower i) t) = cond_both (w'.borrower i).up (arrived (borrower i) (cut m n w') t w') w' (Then (deliver m n (borrower i) t)) (hears m n i t) (λ e. nothing _)
-    event_good (stop keeper) = cond_both w'.keeper.up (stopped keeper w') w' (Then (stop keeper)) (λ e. silent' _ _ (keepers.stop_good r ms G)) (λ e. nothing _)
+    event_good (stop keeper) = cond_both w'.keeper.up (stopped keeper w') w' (Then (stop keeper)) (λ e. unsaid _ _ (keepers.stop_good r ms G)) (λ e. nothing _)
     event_good (stop (borrower i)) = cond_both (w'.borrower i).up (stopped (borrower i) w') w' (Then (stop (borrower i))) (λ e. silent _ _ (borrowers.stop_good S r ms G i)) (λ e. nothing _)
     event_good (up keeper) = cond_both w'.keeper.up w' (risen_from keeper w') (Then (up keeper)) (λ e. nothing _)
-        (λ e. cond_both (leb (2 ^ 64) (w'.now.hand 0 + long_of w')) w' (with_keeper (keeper_up (w'.now.hand 0) (long_of w') w'.keeper.file) w') (Then (up keeper)) (λ z. nothing _) (λ z. silent' _ _ (keepers.up_good r ms G C)))
+        (λ e. cond_both (leb (2 ^ 64) (w'.now.hand 0 + long_of w')) w' (with_keeper (keeper_up (w'.now.hand 0) (long_of w') w'.keeper.file) w') (Then (up keeper)) (λ z. nothing _) (λ z. unsaid _ _ (keepers.up_good r ms G C)))
     event_good (up (borrower i)) = cond_both (w'.borrower i).up w' (risen_from (borrower i) w') (Then (up (borrower i))) (λ e. nothing _)
         (λ e. cond_both (ltb i 32) (with_borrower i (borrower_up (w'.borrower i).file) w') w' (Then (up (borrower i))) (λ z. silent _ _ (borrowers.up_good S r ms G i)) (λ z. nothing _))

@@ -118,18 +118,20 @@ back P r e h = go (timely r e)
 same_keeps : (rate grain t x : ℕ) → Keeps rate grain (t - t) (x - x)
 same_keeps rate grain t x = record { slow = simp sub_self (omega arith); fast = simp sub_self (omega arith) }
 
+-- every clock keeps within its error up to the present moment, from any moment so far and from the present one
+up_to_now : (rate grain : ℕ) (now : Moment) (past : List Moment) → Within rate grain (now ∷ past) → (o : Moment) → Memᴰ o (now ∷ past) → Between rate grain o now
+unfolding Pairs
+up_to_now rate grain now past h o (Memᴰ.head e) = subst (λ (x : Moment). Between rate grain x now) (sym e) (λ i. same_keeps rate grain now.true (now.hand i))
+up_to_now rate grain now past h o (Memᴰ.tail m) = h.0 o m
+
 -- while the clocks keep within their error, terms that fit are safe
 pub clocked : (rate short long grain : ℕ) → Fits rate short long → 0 < grain → (now : Moment) (past : List Moment) → Within rate grain (now ∷ past) → Pairs Later (now ∷ past) → Clocked (record { short = short; long = long }) now past
 unfolding Pairs
 clocked rate short long grain fits pos now past h g =
     record {
-      covers = λ t m. terms_safe rate grain short long t now pos fits (earlier now past g t m) (between t m);
+      covers = λ t m. terms_safe rate grain short long t now pos fits (earlier now past g t m) (up_to_now rate grain now past h t m);
       onward = λ t m. (earlier now past g t m).hand 0;
     }
-  where
-    between : (t : Moment) → Memᴰ t (now ∷ past) → Between rate grain t now
-    between t (Memᴰ.head e) = subst (λ (x : Moment). Between rate grain x now) (sym e) (λ i. same_keeps rate grain now.true (now.hand i))
-    between t (Memᴰ.tail m) = h.0 t m
 
 -- CLOCKS THAT GO ON EXACTLY keep within their error
 more_slow : (a b d g e f : ℕ) → e ≤ f → a * e ≤ (b + 1) * f * g → (a + d * g) * e ≤ (b + d + 1) * f * g
@@ -146,8 +148,4 @@ exactly rate grain d o n x y le le' k =
 
 pub paused : (rate grain d : ℕ) (r : Run) → Pairs Later (moments r) → Within rate grain (moments r) → Within rate grain (moments (next r (pause grain d)))
 unfolding Pairs
-paused rate grain d r g h = ((λ o z j. let l = earlier r.world.now r.past g o z in exactly rate grain d o.true r.world.now.true (o.hand j) (r.world.now.hand j) l.true (l.hand j) (kept o z j)), h)
-  where
-    kept : (o : Moment) → Memᴰ o (moments r) → Between rate grain o r.world.now
-    kept o (Memᴰ.head e) = subst (λ (x : Moment). Between rate grain x r.world.now) (sym e) (λ j. same_keeps rate grain r.world.now.true (r.world.now.hand j))
-    kept o (Memᴰ.tail z) = h.0 o z
+paused rate grain d r g h = ((λ o z j. let l = earlier r.world.now r.past g o z in exactly rate grain d o.true r.world.now.true (o.hand j) (r.world.now.hand j) l.true (l.hand j) (up_to_now rate grain r.world.now r.past h o z j)), h)
