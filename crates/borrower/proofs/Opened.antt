@@ -4,14 +4,14 @@ use Rattle.std.proofs.Common.{◌≡◌, ℕ, cond, eqb, List, [], ◌∷◌, sy
 use mathlib.Core.Path.{fun_ext}
 use Rattle.std.proofs.lemmas.Bool.{cond_both}
 use Rattle.part.specs.declared.who.Who.{Who}
-use Rattle.part.specs.Parts.{at_1}
+use Rattle.part.specs.Parts.{at_1, blank}
 use Rattle.journal.specs.Records.{Rec, Applied, VoidUpTo, Numbers}
 use Rattle.journal.specs.Replays.{Through}
 use Rattle.borrower.specs.declared.hold.OnFile.{OnFile}
 use Rattle.borrower.specs.declared.hold.Part.{Part}
 use Rattle.borrower.specs.declared.tablet.Tablet.{Tablet}
 use Rattle.borrower.specs.Steps.{risen}
-use Rattle.borrower.specs.Tablets.{part_at, filed_at}
+use Rattle.borrower.specs.Tablets.{part_at, filed_at, copy_at}
 use Rattle.borrower.specs.Outcomes.{Reread}
 use Rattle.borrower.specs.Opened.{said}
 
@@ -19,6 +19,7 @@ use Rattle.borrower.specs.Opened.{said}
 pub record Came (w : Who) (s : ℕ) (fs : ℕ → OnFile) (t : Tablet) : Type 0 where
   pub filed : filed_at t ≡ fs
   pub parts : part_at t ≡ (λ q. risen (filed_at t q))
+  pub copies : copy_at t ≡ blank
   pub short : t.short ≡ s
   pub who : t.who ≡ w
 
@@ -34,6 +35,7 @@ through w s (Numbers q a n ∷ rs) t u fs c (m, p, r) =
     (record {
       filed = p.filed ∙ ap (at_1 q k) c.filed;
       parts = p.parts ∙ ap (at_1 q (risen k)) c.parts ∙ risen_at q k (filed_at t) ∙ ap (λ (f : ℕ → OnFile). λ x. risen (f x)) (sym p.filed);
+      copies = p.copies ∙ c.copies;
       short = p.short ∙ c.short;
       who = p.who ∙ c.who;
     })

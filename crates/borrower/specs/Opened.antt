@@ -2,7 +2,7 @@
 -- Assumes nothing.
 use Rattle.std.specs.Prelude.{◌≡◌, ℕ, List, [], ◌∷◌, Ok, Err, Result}
 use Rattle.part.specs.declared.who.Who.{Who}
-use Rattle.part.specs.Parts.{at_1}
+use Rattle.part.specs.Parts.{at_1, blank}
 use Rattle.journal.specs.declared.record.Owner.TheVariants as owner
 use Rattle.journal.specs.declared.replay.OpenError.{OpenError}
 use Rattle.journal.specs.declared.replay.OpenError.TheVariants as why
@@ -12,7 +12,7 @@ use Rattle.journal.specs.Stores.{Disk}
 use Rattle.borrower.specs.declared.hold.OnFile.{OnFile}
 use Rattle.borrower.specs.declared.tablet.Tablet.{Tablet}
 use Rattle.borrower.specs.Steps.{risen}
-use Rattle.borrower.specs.Tablets.{part_at, filed_at, no_numbers}
+use Rattle.borrower.specs.Tablets.{part_at, filed_at, copy_at, no_numbers}
 
 -- the numbers that records say, one after another: the last of a part stand
 abbrev pub said : List Rec → (ℕ → OnFile) → ℕ → OnFile
@@ -21,10 +21,11 @@ said (Numbers q a w ∷ rs) fs = said rs (at_1 q (record { ask = a; write = w })
 said (Applied i q n v ∷ rs) fs = said rs fs
 said (VoidUpTo i q n ∷ rs) fs = said rs fs
 
--- it holds nothing, and has the numbers that its journal says
+-- it holds nothing, has no copies, and has the numbers that its journal says
 pub record CameUp (w : Who) (s : ℕ) (file : List ℕ) (t : Tablet) : Type 0 where
   pub filed : filed_at t ≡ said (records_of owner.Borrower file) (λ q. no_numbers)
   pub parts : part_at t ≡ (λ q. risen (filed_at t q))
+  pub copies : copy_at t ≡ blank
   pub short : t.short ≡ s
   pub who : t.who ≡ w
 

@@ -5,7 +5,7 @@ mod Leases
 mod Keep
 mod View
 mod Calls
-mod Files
+pub mod Files
 mod Wire
 mod Good
 mod Hears
@@ -13,6 +13,6 @@ mod Serves
 mod Time
 mod Tick
 mod Events
-mod Whole
+pub mod Whole
 mod Comes
 mod Cases

@@ -118,24 +118,34 @@ risen_from (borrower i) w = cond (nat_lt i 32) (with_borrower i (borrower_up (w.
 abbrev pub torn_file : (file : List ℕ) → List Rec → (left : ℕ) → List ℕ
 torn_file f rs n = f ++ take n (bytes_of rs)
 
--- CALLS
+-- CALLS, of a borrower by itself: what it reads on its clock, and how long a loan is for it
+
+abbrev pub calls_effect : (who place clock short : ℕ) → Call → List ℕ → Borrower → does.Effect
+calls_effect i q c s k v b = does.call_effect i q v c s k (b.parts q) (b.filed q)
+
+abbrev pub calls_part : (place clock short : ℕ) → Call → Borrower → Part
+calls_part q c s k b = does.call_part c s k (b.parts q)
+
+abbrev pub calls_leave : (who place clock short : ℕ) → Call → List ℕ → Borrower → Borrower
+calls_leave i q c s k v b =
+    record {
+      parts = at_1 q (calls_part q c s k b) b.parts;
+      filed = does.filed_after q (b.parts q) (calls_part q c s k b) b.filed;
+      copies = b.copies;
+      up = true;
+      file = b.file ++ bytes_of (calls_effect i q c s k v b).records;
+    }
+
+-- of one in the world
 
 abbrev pub call_effect : (who place : ℕ) → Call → List ℕ → World → does.Effect
-call_effect i q c v w = does.call_effect i q v (w.now.hand (suc i)) w.short c ((w.borrower i).parts q) ((w.borrower i).filed q)
+call_effect i q c v w = calls_effect i q (w.now.hand (suc i)) w.short c v (w.borrower i)
 
 abbrev pub call_part : (who place : ℕ) → Call → World → Part
-call_part i q c w = does.call_part (w.now.hand (suc i)) w.short c ((w.borrower i).parts q)
+call_part i q c w = calls_part q (w.now.hand (suc i)) w.short c (w.borrower i)
 
--- what a call leaves of the borrower
 abbrev pub after_call : (who place : ℕ) → Call → List ℕ → World → Borrower
-after_call i q c v w =
-    record {
-      parts = at_1 q (call_part i q c w) (w.borrower i).parts;
-      filed = does.filed_after q ((w.borrower i).parts q) (call_part i q c w) (w.borrower i).filed;
-      copies = (w.borrower i).copies;
-      up = true;
-      file = (w.borrower i).file ++ bytes_of (call_effect i q c v w).records;
-    }
+after_call i q c v w = calls_leave i q (w.now.hand (suc i)) w.short c v (w.borrower i)
 
 abbrev pub called : (who place : ℕ) → Call → List ℕ → Option ℕ → World → World
 called i q c v None w = with_sent (call_effect i q c v w).sends (with_borrower i (after_call i q c v w) w)
@@ -145,32 +155,46 @@ called i q c v (Some n) w = with_borrower i (borrower_down (torn_file (w.borrowe
 abbrev pub can_call : (who place : ℕ) → List ℕ → World → Bool
 can_call i q v w = (w.borrower i).up && (nat_lt i 32 && (nat_lt q 16384 && length v == 1024))
 
--- MESSAGES: some bytes arrive
+-- MESSAGES: some bytes arrive, at the keeper by itself and at a borrower by itself
+
+abbrev pub serve_effect : (clock : ℕ) → List ℕ → Lender → keeps.Effect
+serve_effect c bs k = keeps.heard_effect c (read bs) k.book k.parts
+
+abbrev pub serve_leaves : (clock : ℕ) → List ℕ → Lender → Lender
+serve_leaves c bs k =
+    record {
+      book = keeps.heard_book c (read bs) k.book;
+      parts = keeps.heard_parts c (read bs) k.book k.parts;
+      up = true;
+      file = k.file ++ bytes_of (serve_effect c bs k).records;
+    }
+
+abbrev pub hear_effect : (who : ℕ) → List ℕ → Borrower → does.Effect
+hear_effect i bs b = does.heard_effect i (read bs) b.parts b.filed
+
+abbrev pub hear_leaves : (who : ℕ) → List ℕ → Borrower → Borrower
+hear_leaves i bs b =
+    record {
+      parts = does.heard_parts i (read bs) b.parts;
+      filed = does.heard_filed i (read bs) b.parts b.filed;
+      copies = does.heard_copies i (read bs) b.parts b.copies;
+      up = true;
+      file = b.file ++ bytes_of (hear_effect i bs b).records;
+    }
+
+-- at those in the world
 
 abbrev pub keeper_effect : List ℕ → World → keeps.Effect
-keeper_effect bs w = keeps.heard_effect (w.now.hand 0) (read bs) w.keeper.book w.keeper.parts
+keeper_effect bs w = serve_effect (w.now.hand 0) bs w.keeper
 
 abbrev pub after_served : List ℕ → World → Lender
-after_served bs w =
-    record {
-      book = keeps.heard_book (w.now.hand 0) (read bs) w.keeper.book;
-      parts = keeps.heard_parts (w.now.hand 0) (read bs) w.keeper.book w.keeper.parts;
-      up = true;
-      file = w.keeper.file ++ bytes_of (keeper_effect bs w).records;
-    }
+after_served bs w = serve_leaves (w.now.hand 0) bs w.keeper
 
 abbrev pub borrower_effect : (who : ℕ) → List ℕ → World → does.Effect
-borrower_effect i bs w = does.heard_effect i (read bs) (w.borrower i).parts (w.borrower i).filed
+borrower_effect i bs w = hear_effect i bs (w.borrower i)
 
 abbrev pub after_heard : (who : ℕ) → List ℕ → World → Borrower
-after_heard i bs w =
-    record {
-      parts = does.heard_parts i (read bs) (w.borrower i).parts;
-      filed = does.heard_filed i (read bs) (w.borrower i).parts (w.borrower i).filed;
-      copies = does.heard_copies i (read bs) (w.borrower i).parts (w.borrower i).copies;
-      up = true;
-      file = (w.borrower i).file ++ bytes_of (borrower_effect i bs w).records;
-    }
+after_heard i bs w = hear_leaves i bs (w.borrower i)
 
 abbrev pub arrived : Node → List ℕ → Option ℕ → World → World
 arrived keeper bs None w = with_sent (keeper_effect bs w).sends (with_keeper (after_served bs w) w)

@@ -42,13 +42,20 @@ impl Keeper {
         self.files.part(place)
     }
 
-    // A message comes, and nothing is on file of it yet.
-    fn receive(&mut self, clock: u64, bytes: &[u8]) -> Reply
+    /// A message comes, and nothing is on file of it yet: the record of the reply has to be, synced, before anything leaves.
+    pub fn receive(&mut self, clock: u64, bytes: &[u8]) -> Reply
         ensures effect { effect (keeper_parts self.new) result ≡ heard_effect clock (read bytes.now) (keeper_book self.old) (keeper_parts self.old) }
         ensures book { keeper_book self.new ≡ heard_book clock (read bytes.now) (keeper_book self.old) }
         ensures parts { keeper_parts self.new ≡ heard_parts clock (read bytes.now) (keeper_book self.old) (keeper_parts self.old) }
     {
         self.lender.receive(&mut self.files, clock, bytes)
+    }
+
+    /// The bytes that go with a record: those that the part has which it is about.
+    pub fn part_of(&self, record: Record) -> &[u8; 1024]
+        ensures { result.now ≡ keeper_parts self.now (place_in «record») }
+    {
+        self.files.part(place_in(record))
     }
 
     // Appends the record of a reply, if there is one, and syncs. The part's bytes are looked for only where there is one.
@@ -57,7 +64,7 @@ impl Keeper {
     {
         match record {
             None => Ok(()),
-            Some(record) => commit_record(store, &record, self.files.part(place_in(record))),
+            Some(record) => commit_record(store, &record, self.part_of(record)),
         }
     }
 

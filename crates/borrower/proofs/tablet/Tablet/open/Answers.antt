@@ -10,5 +10,5 @@ returns g c =
     let n = c.in_ok-tablet.ensures in
     let o = c.in_ok-open.ensures in
     let came = through c.args.who c.args.short _ c.in_ok-tablet.tablet c.open.new.into (λ q. no_numbers)
-    (record { filed = n.filed; parts = n.parts ∙ ap (λ (f : ℕ → OnFile). λ q. risen (f q)) (sym n.filed); short = n.short; who = n.who }) o.3 in
-    (record { filed = came.filed; parts = came.parts; short = came.short; who = came.who }, o.0, o.1)
+    (record { filed = n.filed; parts = n.parts ∙ ap (λ (f : ℕ → OnFile). λ q. risen (f q)) (sym n.filed); copies = n.copies; short = n.short; who = n.who }) o.3 in
+    (record { filed = came.filed; parts = came.parts; copies = came.copies; short = came.short; who = came.who }, o.0, o.1)

@@ -1,0 +1,9 @@
+pub mod OneBorrower
+pub mod OneKeeper
+pub mod FourBorrowers
+pub mod Recalls
+pub mod OnePart
+pub mod Plain
+pub mod Played
+pub mod Onward
+pub mod Shows

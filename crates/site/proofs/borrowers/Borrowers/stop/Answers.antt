@@ -1,0 +1,13 @@
+use Rattle.std.proofs.Common.{ap, ◌∙◌, arith}
+use Rattle.site.specs.Nodes.{borrower_number}
+use Rattle.world.specs.World.{Borrower, borrower_down}
+use Rattle.site.proofs.FourBorrowers.{there, put}
+use Rattle.site.proofs.borrowers.Borrowers.stop.Goals as goal
+
+pub returns-clause-is : goal.returns-clause-is
+returns-clause-is c =
+    let ns = c.args.self.now.nodes in
+    let i = borrower_number c.args.who in
+    let here = c.index.ensures.here in
+    let was = there ns _ c.index-self-index.result (omega arith) i here in
+    put ns _ i _ _ here (omega arith) (c.stop.ensures.is ∙ ap (λ (b : Borrower). borrower_down b.file) was)

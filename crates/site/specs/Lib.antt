@@ -1,0 +1,10 @@
+pub mod Nodes
+pub mod Networks
+pub mod OnePart
+pub mod OneKeeper
+pub mod OneBorrower
+pub mod Seats
+pub mod FourBorrowers
+pub mod Worlds
+pub mod Led
+pub mod Shows
