@@ -1,6 +1,6 @@
 -- What the lines of a rehearsal's script say. A step names a part by its number in all files.
 -- Assumes nothing.
-use Rattle.std.specs.Prelude.{◌≡◌, ℕ, ◌+◌, ◌*◌, Bool, true, false, cond, ◌&&◌, List, [], ◌∷◌, length, replicate, Some, None, codes, Option, ◌==◌, nat_le, nat_lt}
+use Rattle.std.specs.Prelude.{◌≡◌, ℕ, Bool, true, false, cond, ◌&&◌, List, [], ◌∷◌, length, replicate, Some, None, codes, Option, ◌==◌, nat_le}
 use Rattle.std.specs.Borrow.{Bor}
 use Rattle.std.specs.Option.{option_map}
 use Rattle.std.specs.Str.{bytes_eq}
@@ -10,10 +10,10 @@ use Rattle.lines.specs.Decimals.{number_of}
 use Rattle.lines.specs.Hex.{is_hex, hex_bytes, fronted}
 use Rattle.lines.specs.Names.{place_of, kind_of}
 use Rattle.lines.specs.Words.{words}
-use Rattle.script.specs.declared.step.Borrower.{Borrower as Who}
-use Rattle.script.specs.declared.step.Borrower.TheVariants.{Zero, One, Two, Three}
-use Rattle.script.specs.declared.step.Node.{Node}
-use Rattle.script.specs.declared.step.Node.TheVariants.{Keeper, Borrower}
+use Rattle.site.specs.declared.event.Borrower.{Borrower as Who}
+use Rattle.site.specs.declared.event.Node.{Node}
+use Rattle.site.specs.declared.event.Node.TheVariants.{Keeper, Borrower}
+use Rattle.site.specs.Nodes.{borrower_at}
 use Rattle.script.specs.declared.step.Act.{Act}
 use Rattle.script.specs.declared.step.Act.TheVariants.{Ask, Show, Write, Forget}
 use Rattle.script.specs.declared.step.Step.{Step}
@@ -46,16 +46,7 @@ fill_of [] out = Some out
 fill_of (w ∷ ws) [] = None
 fill_of (w ∷ ws) (o ∷ out) = and_then (number_of w) (λ n. option_map (λ more. n ∷ more) (fill_of ws out))
 
--- the numbers of the borrowers
-abbrev pub borrower_number : Who → ℕ
-borrower_number Zero = 0
-borrower_number One = 1
-borrower_number Two = 2
-borrower_number Three = 3
-
-abbrev pub borrower_at : ℕ → Option Who
-borrower_at n = cond (n == 0) (Some Zero) (cond (n == 1) (Some One) (cond (n == 2) (Some Two) (cond (n == 3) (Some Three) None)))
-
+-- a borrower by its number
 abbrev pub borrower_of : List ℕ → Option Who
 borrower_of w = and_then (number_of w) borrower_at
 

@@ -1,39 +1,16 @@
 ghost use Rattle.std.specs.Prelude.{◌≡◌};
 ghost use Rattle.std.specs.Option.{option_map};
-ghost use Rattle.script.specs.Scripts.{borrower_number, plain, step_of};
+ghost use Rattle.script.specs.Scripts.{plain, step_of};
 
 use crate::step::forms::*;
 use crate::step::parts::blank;
 use lines::words::{is, split};
 use message::kind::Kind;
 use part::place::Place;
+use site::event::{Borrower, Node};
 
 mod forms;
 mod parts;
-
-/// One of the borrowers 0 to 3.
-#[derive(Clone, Copy, Debug, PartialEq, Eq)]
-pub enum Borrower {
-    Zero = 0,
-    One = 1,
-    Two = 2,
-    Three = 3,
-}
-
-impl From<Borrower> for u8 {
-    ghost from_gives = { λ b n. n ≡ borrower_number b };
-
-    fn from(borrower: Borrower) -> u8 {
-        borrower as u8
-    }
-}
-
-/// Who may be up or down.
-#[derive(Clone, Copy, Debug, PartialEq, Eq)]
-pub enum Node {
-    Keeper,
-    Borrower(Borrower),
-}
 
 /// What a borrower is asked to do with a part.
 // The borrower's own `Call` does not carry the bytes of a write, which stand in the line.

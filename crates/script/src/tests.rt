@@ -1,6 +1,7 @@
-use crate::step::{Act, Borrower, Node, Step, parse};
+use crate::step::{Act, Step, parse};
 use message::kind::Kind;
 use part::place::Place;
+use site::event::{Borrower, Node};
 use std::test::Fail;
 
 #[test]

@@ -1,5 +1,5 @@
 ghost use Rattle.std.specs.Prelude.{◌≡◌};
-ghost use Rattle.site.specs.Nodes.{borrower_number};
+ghost use Rattle.site.specs.Nodes.{borrower_number, borrower_at};
 
 use borrower::outcome::Call;
 use part::place::Place;
@@ -12,6 +12,22 @@ pub enum Borrower {
     One = 1,
     Two = 2,
     Three = 3,
+}
+
+impl Borrower {
+    /// The borrower of this number, where there is one.
+    // A `match` stays: `TryFrom` would be the same one, with an error beside it that nothing reads.
+    pub fn new(number: u64) -> Option<Borrower>
+        ensures { result ≡ borrower_at number }
+    {
+        match number {
+            0 => Some(Borrower::Zero),
+            1 => Some(Borrower::One),
+            2 => Some(Borrower::Two),
+            3 => Some(Borrower::Three),
+            _ => None,
+        }
+    }
 }
 
 impl From<Borrower> for u8 {

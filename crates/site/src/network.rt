@@ -1,14 +1,19 @@
 ghost use Rattle.std.specs.Prelude.{◌≡◌, [], ◌∷◌, ◌++◌, map, length, take, IfOk, slice_index_or};
+ghost use Rattle.std.specs.Option.{option_map};
 ghost use Rattle.message.specs.Format.{said, layout};
+ghost use Rattle.message.specs.Reading.{read};
 ghost use Rattle.lender.specs.Rules.{recalls};
 ghost use Rattle.lender.specs.Replies as keepers;
 ghost use Rattle.borrower.specs.Outcomes as borrowers;
+ghost use Rattle.site.specs.Nodes.{borrower_at, receiver_of};
 ghost use Rattle.site.specs.Networks.{sent_of};
 ghost use Rattle.site.specs.OneKeeper.{lender_of};
 
+use crate::event::{Borrower, Node};
 use crate::fault::Fault;
 use crate::keeper_node::KeeperNode;
 use lender::answer::Sends;
+use message::decode::decode;
 use message::encode::encode;
 use message::form::Message;
 use part::place::Place;
@@ -20,6 +25,13 @@ use std::alloc::{AllocError, Global};
 pub struct Network {
     heap: Global,
     sent: Vec<Vec<u8>>,
+}
+
+// A borrower, if it is one of the four.
+fn node(who: Who) -> Option<Node>
+    ensures { result ≡ option_map (λ b. Node.Borrower b) (borrower_at who.id) }
+{
+    Borrower::new(u64::from(who.id)).map(Node::Borrower)
 }
 
 impl Network {
@@ -40,14 +52,33 @@ impl Network {
         self.sent.len()
     }
 
-    /// The first bytes of a message, counted from 0; none of one that was never sent.
+    /// The bytes of a message, counted from 0; none of one that was never sent.
+    pub fn bytes(&self, message: usize) -> &[u8]
+        ensures { result.now ≡ slice_index_or (sent_of self.now) message [] }
+    {
+        match self.sent.get(message) {
+            Some(bytes) => bytes,
+            None => &[],
+        }
+    }
+
+    /// So many first bytes of a message.
     pub fn first_bytes(&self, message: usize, size: usize) -> &[u8]
         ensures { result.now ≡ take size (slice_index_or (sent_of self.now) message []) }
     {
-        let Some(bytes) = self.sent.get(message) else {
-            return &[];
-        };
+        let bytes = self.bytes(message);
         &bytes[0..size.min(bytes.len())]
+    }
+
+    /// Where a message is meant to arrive; nowhere where it was never sent.
+    pub fn receiver(&self, message: usize) -> Option<Node>
+        ensures { result ≡ receiver_of (read (slice_index_or (sent_of self.now) message [])) }
+    {
+        match decode(self.bytes(message)).ok()? {
+            Message::Ask(_) | Message::Write(_) | Message::Back(_) => Some(Node::Keeper),
+            Message::Loan { head, .. } | Message::In(head) | Message::Void(head) => node(head.who),
+            Message::Recall { who, .. } => node(who),
+        }
     }
 
     /// Sends a message, with the bytes of `part` where it carries a part's.

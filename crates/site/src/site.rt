@@ -10,6 +10,8 @@ pub mod calls;
 pub mod deliveries;
 pub mod lives;
 pub mod play;
+pub mod promise;
+pub mod sent;
 pub mod show;
 pub mod time;
 

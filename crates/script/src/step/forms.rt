@@ -5,11 +5,12 @@ ghost use Rattle.script.specs.Scripts.{plain, set_of, tick_of, anew_of, only_nod
 ghost use Rattle.script.specs.Scripts.{two_of, ask_of, write_of, act_of, call_of};
 
 use crate::step::parts::*;
-use crate::step::{Act, Node, Step};
+use crate::step::{Act, Step};
 use lines::decimal::number;
 use lines::names::{kind, place};
 use lines::words::{is, split};
 use part::place::Place;
+use site::event::Node;
 
 // What the clocks show at first, from the words behind `set`.
 pub(super) fn read_set(rest: Option<&[u8]>) -> Option<Step<Place>>

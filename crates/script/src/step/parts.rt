@@ -3,10 +3,10 @@ ghost use Rattle.std.specs.Option.{option_map};
 ghost use Rattle.lines.specs.Words.{rest_words};
 ghost use Rattle.script.specs.Scripts.{is_blank, ended, fill_of, borrower_of, node_of, zeros, bytes_of, keyed, torn_of, Reads};
 
-use crate::step::{Borrower, Node};
 use lines::decimal::number;
 use lines::hex::decode;
 use lines::words::{is, split};
+use site::event::{Borrower, Node};
 
 // The line is passed over.
 pub(super) fn blank(line: &[u8]) -> bool
@@ -43,17 +43,10 @@ pub(super) fn fill(rest: Option<&[u8]>, out: &mut [u64]) -> Option<()>
 }
 
 // The borrower of this number.
-// A `match` stays: `TryFrom` would be the same one, with an error beside it that nothing reads.
 pub(super) fn borrower(word: &[u8]) -> Option<Borrower>
     ensures { result ≡ borrower_of word.now }
 {
-    match number(word)? {
-        0 => Some(Borrower::Zero),
-        1 => Some(Borrower::One),
-        2 => Some(Borrower::Two),
-        3 => Some(Borrower::Three),
-        _ => None,
-    }
+    Borrower::new(number(word)?)
 }
 
 // Who is meant: the keeper, or a borrower.
