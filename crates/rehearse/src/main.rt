@@ -1,4 +1,4 @@
-// Plays a script: so far its clocks, which run as it says within their error, and the borrowers 0 to 3.
+// Plays a script: a keeper, the borrowers 0 to 3, the network, stops, and clocks that run as it says within their error.
 #![tactic(auto)]
 
 use anyhow::bail;
@@ -8,7 +8,6 @@ use startup::terms;
 use std::env;
 use std::process::ExitCode;
 
-mod node;
 mod print;
 mod rehearsal;
 mod stage;

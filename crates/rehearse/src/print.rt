@@ -1,4 +1,5 @@
 use lines::output::Output;
+use message::decode::{carried_part, decode};
 use message::form::Message;
 use message::kind::Kind;
 use message::refusal::Refusal;
@@ -43,8 +44,8 @@ fn bytes(out: &mut Output, part: &[u8; 1024]) -> Result<(), AllocError> {
     out.trimmed(part)
 }
 
-/// Prints what a message says, with the part that it carries.
-pub fn message(out: &mut Output, message: Message, part: &[u8; 1024]) -> Result<(), AllocError> {
+// Prints what a message says, with the part that it carries.
+fn message(out: &mut Output, message: Message, part: &[u8; 1024]) -> Result<(), AllocError> {
     match message {
         Message::Ask(ask) => {
             head(out, "ask", ask.head)?;
@@ -68,17 +69,24 @@ pub fn message(out: &mut Output, message: Message, part: &[u8; 1024]) -> Result<
     out.end_line()
 }
 
-/// Prints a message that is sent, by its number.
-pub fn sent(
-    out: &mut Output,
-    number: u64,
-    sent: Message,
-    part: &[u8; 1024],
-) -> Result<(), AllocError> {
+/// Prints a message that is sent, counted from 0, by its number in the script, which counts from 1.
+pub fn sent(out: &mut Output, index: usize, bytes: &[u8]) -> Result<(), AllocError> {
+    let Ok(sent) = decode(bytes) else {
+        return Ok(());
+    };
     out.text("sent ")?;
-    out.number(number)?;
+    out.number((index as u64).saturating_add(1))?;
     out.text(" ")?;
-    message(out, sent, part)
+    match carried_part(bytes) {
+        Some(part) => message(out, sent, part),
+        None => message(out, sent, &[0; 1024]),
+    }
+}
+
+/// Prints what a writer is told.
+pub fn told(out: &mut Output, told: Message) -> Result<(), AllocError> {
+    out.text("told ")?;
+    message(out, told, &[0; 1024])
 }
 
 /// Prints what is shown, beside what the keeper has.
