@@ -83,8 +83,8 @@ impl KeeperNode {
         self.memory = None;
     }
 
-    #[tactic(auto, using(crate::proofs::OneKeeper::heard_long))]
     /// A message comes; nothing comes of it where it is down.
+    #[tactic(auto, using(crate::proofs::OneKeeper::heard_long))]
     pub fn serve(&mut self, clock: u64, bytes: &[u8]) -> Result<Option<Reply>, Fault>
         ensures is { IfOk result (Served self.old self.new clock bytes.now) }
         ensures long { self.new.long ≡ self.old.long }
@@ -96,8 +96,8 @@ impl KeeperNode {
         Ok(Some(reply))
     }
 
-    #[tactic(auto, using(crate::proofs::OneKeeper::heard_long))]
     /// A message in whose midst it stops: of its record only so many first bytes are left. False where it is down.
+    #[tactic(auto, using(crate::proofs::OneKeeper::heard_long))]
     pub fn serve_torn(&mut self, clock: u64, bytes: &[u8], left: u64) -> Result<bool, Fault>
         ensures is { IfOk result (ServedTorn self.old self.new clock bytes.now left) }
         ensures long { self.new.long ≡ self.old.long }
