@@ -1,8 +1,9 @@
 -- What the digits of a hexadecimal text stand for.
 -- Assumes nothing.
 use Rattle.std.proofs.Common.{◌≡◌, ℕ, suc, ◌+◌, ◌-◌, ◌*◌, ◌/◌, ◌%◌, ◌<◌, ◌≤◌, true, ◌&&◌, ltb, leb, List, [], ◌∷◌, ◌++◌, length, get_or, take, drop, set, is_some, Some, Option, unwrap_or, sym, refl, ap, ◌∙◌, arith}
-use Rattle.std.proofs.lemmas.List.{at_drop_more, drop_more, take_more_set, drop-set-lt, take_rest, append_assoc}
+use Rattle.std.proofs.lemmas.List.{at_drop_more, drop_more, drop_all, take_more_set, drop-set-lt, take_rest, append_assoc, append-nil, take-append-drop, take_all, length-set, length-append, length-take}
 use Rattle.std.proofs.lemmas.Bool.{cond_both, cond-true, cond-false, leb-true, le-leb, lt-leb, ltb-true, ltb-false, lt-ltb, eq-eqb, and_parts, and_from, and_right}
+use Rattle.std.proofs.Math.Seq.{take-append_seam}
 use Rattle.lines.specs.Hex.{hex_digit, hex_value, all_hex, is_hex, hex_bytes, fronted, hex_letter, hex_text}
 
 between_true : (a b n : ℕ) → (leb a n && leb n b) ≡ true → n ≤ b
@@ -54,6 +55,46 @@ text_step was mid out bytes i h l lt he le me oe =
     ∙ append_assoc (was ++ h ∷ []) (l ∷ []) rest ∙ append_assoc was (h ∷ []) (l ∷ rest)
     ∙ ap (λ (x : ℕ). was ++ x ∷ l ∷ rest) he ∙ ap (λ (x : ℕ). was ++ hex_letter (get_or bytes i 0 / 16) ∷ x ∷ rest) le
     ∙ sym (at_drop_more (λ (bs : List ℕ). was ++ hex_text bs) bytes i 0 lt)
+
+-- the first i bytes have their digits in front, the digits of the others follow, and behind all there is room for stands what stood there
+abbrev pub text_on : (out : List ℕ) (i : ℕ) (bytes : List ℕ) → List ℕ
+text_on out i bytes = (take (2 * i) out ++ hex_text (drop i bytes)) ++ drop (2 * length bytes) out
+
+-- the digits of one byte more are written
+pub text_put : (out bytes : List ℕ) (i h l : ℕ) → i < length bytes → 2 * length bytes ≤ length out → h ≡ hex_letter (get_or bytes i 0 / 16)
+    → l ≡ hex_letter (get_or bytes i 0 % 16) → text_on (set (set out (2 * i) h) (2 * i + 1) l) (i + 1) bytes ≡ text_on out i bytes
+text_put out bytes i h l lt room he le =
+    let n : ℕ = 2 * length bytes in
+    let mid : List ℕ = set out (2 * i) h in
+    let new : List ℕ = set mid (2 * i + 1) l in
+    let was : List ℕ = take (2 * i) out in
+    let next : 2 * (i + 1) ≡ 2 * i + 1 + 1 = omega arith in
+    let behind : drop n new ≡ drop n out = drop-set-lt n mid (2 * i + 1) l (omega arith) ∙ drop-set-lt n out (2 * i) h (omega arith) in
+    let front : take (2 * (i + 1)) new ≡ (was ++ h ∷ []) ++ l ∷ [] =
+    ap (λ (m : ℕ). take m new) next ∙ take_more_set mid (2 * i + 1) l (rw length-set (omega arith)) ∙ ap (λ (q : List ℕ). q ++ l ∷ []) (take_more_set out (2 * i) h (omega arith)) in
+    ap (λ (q : List ℕ). q ++ drop n new)
+    (ap (λ (q : List ℕ). q ++ hex_text (drop (i + 1) bytes)) front ∙ text_step was (was ++ h ∷ []) ((was ++ h ∷ []) ++ l ∷ []) bytes i h l lt he le refl refl)
+    ∙ ap (λ (q : List ℕ). (was ++ hex_text (drop i bytes)) ++ q) behind
+
+-- all digits are written
+pub text_done : (out bytes : List ℕ) (i : ℕ) → i ≡ length bytes → text_on out i bytes ≡ out
+text_done out bytes i e =
+    ap (λ (q : List ℕ). (take (2 * i) out ++ hex_text q) ++ drop (2 * length bytes) out) (drop_all i bytes (omega (arith, e)))
+    ∙ ap (λ (q : List ℕ). q ++ drop (2 * length bytes) out) (append-nil (take (2 * i) out))
+    ∙ ap (λ (m : ℕ). take (2 * m) out ++ drop (2 * length bytes) out) e ∙ take-append-drop (2 * length bytes) out
+
+-- some places of a list are written over from a place on to its end, where the list is one of so many places
+pub tail_written : (items all text post : List ℕ) (start size : ℕ) → all ≡ items → size ≡ length items → start + length text ≡ length items → post ≡ []
+    → take size ((take start all ++ (text ++ post)) ++ drop (length (take start all ++ (text ++ post))) items) ≡ take start items ++ text
+tail_written items all text post start size e s l p =
+    let new : List ℕ = take start items ++ text in
+    let full : length new ≡ length items = omega (arith, length-append (take start items) text, length-take start items, l) in
+    rw e (rw p (rw (append-nil text) (rw (drop_all (length new) items (omega (arith, full))) (rw (append-nil new) (take_all size new (omega (arith, full, s)))))))
+
+-- a list that was filled up begins with what it was
+pub filled_up : (was new more : List ℕ) (start size : ℕ) → new ≡ take size was ++ more → start ≡ length was → start ≤ size → take start new ≡ was
+filled_up was new more start size e s l =
+    rw e (rw (take_all size was (omega (arith, s, l))) (rw s (take-append_seam was more)))
 
 -- a letter is the digit that it was written for
 letter_back : (v : ℕ) → v < 16 → hex_digit (hex_letter v) ≡ Some v

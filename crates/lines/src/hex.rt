@@ -1,4 +1,4 @@
-ghost use Rattle.std.specs.Prelude.{◌≡◌, ℕ, ◌<◌, true, List, ◌++◌, length, is_ok, if◌then◌else◌, Some, None, slice_index};
+ghost use Rattle.std.specs.Prelude.{◌≡◌, ℕ, ◌*◌, ◌<◌, ◌≤◌, true, List, ◌++◌, length, drop, is_ok, if◌then◌else◌, Some, None, slice_index};
 ghost use Rattle.lines.specs.Hex.{hex_digit, hex_value, all_hex, is_hex, hex_bytes, fronted, hex_letter, hex_text};
 
 use std::alloc::AllocError;
@@ -80,15 +80,26 @@ fn letter(value: u8) -> u8
     }
 }
 
+// Writes the digits of the bytes at the front, where there is room for all.
+fn write_digits(bytes: &[u8], out: &mut [u8])
+    requires { 2 * length bytes.now ≤ length out.old }
+    ensures { out.new ≡ hex_text bytes.now ++ drop (2 * length bytes.now) out.old }
+{
+    // In place, and not by a push for each digit: so the processor writes many at once.
+    for (i, b) in bytes.iter().enumerate() {
+        out[2 * i] = letter(*b / 16);
+        out[2 * i + 1] = letter(*b % 16);
+    }
+}
+
 /// Appends the bytes as hexadecimal text, two digits each, in lower case; nothing where there is no memory for all.
 pub fn push_hex(out: &mut Vec<u8>, bytes: &[u8]) -> Result<(), AllocError>
     ensures { out.new.items ≡ (if is_ok result then out.old.items ++ hex_text bytes.now else out.old.items) }
 {
-    out.reserve(bytes.len().checked_mul(2).ok_or(AllocError)?)?;
-    for b in bytes {
-        out.push_reserved(letter(*b / 16));
-        out.push_reserved(letter(*b % 16));
-    }
+    let start = out.len();
+    let digits = bytes.len().checked_mul(2).ok_or(AllocError)?;
+    out.resize(start.checked_add(digits).ok_or(AllocError)?, 0)?;
+    write_digits(bytes, &mut out[start..]);
     Ok(())
 }
 

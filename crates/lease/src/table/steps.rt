@@ -1,4 +1,4 @@
-ghost use Rattle.std.specs.Prelude.{◌≡◌, [], ◌∷◌, ◌++◌, is_ok, IfOk, IsOkUnless, if◌then◌else◌, count_by, filter, nat_lt};
+ghost use Rattle.std.specs.Prelude.{◌≡◌, [], ◌∷◌, ◌++◌, is_ok, IfOk, IsOkUnless, if◌then◌else◌, count_by, filter, nat_le, nat_lt};
 ghost use Rattle.std.specs.List.{list_any};
 ghost use Rattle.lease.specs.Leases.{running, barring_ask, allowing_write, staying_after};
 ghost use Rattle.lease.specs.Tables.{leases, marks_of};
@@ -67,6 +67,14 @@ impl Table {
         self.leases.iter().filter(|l| l.runs(clock)).count()
     }
 
+    /// Whether as many leases run as may.
+    // They are counted only where the table has so many at all.
+    pub fn is_full(&self, clock: u64) -> bool
+        ensures { result ≡ nat_le 4096 (count_by (running clock) (leases self.now)) }
+    {
+        self.leases.len() >= MOST && self.running(clock) >= MOST
+    }
+
     // Drops the leases that no longer run.
     fn expire(&mut self, clock: u64)
         ensures { leases self.new ≡ filter (running clock) (leases self.old) }
@@ -82,7 +90,7 @@ impl Table {
         ensures after { leases self.new ≡ (if is_ok result then filter (running clock) (leases self.old) ++ lease ∷ [] else leases self.old) }
         ensures why { IsOkUnless result Refusal.Exhausted }
     {
-        if self.running(clock) >= MOST {
+        if self.is_full(clock) {
             return Err(Refusal::Exhausted);
         }
         self.expire(clock);

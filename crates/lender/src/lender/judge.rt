@@ -7,7 +7,6 @@ ghost use Rattle.lender.specs.Room.{Room};
 use crate::answer::{AskAnswer, WriteAnswer};
 use crate::lender::Lender;
 use crate::numbers::Counts;
-use lease::table::steps::MOST;
 use message::form::Ask;
 use part::head::Head;
 
@@ -57,7 +56,7 @@ impl Lender {
             let by = self.table.barring(clock, ask);
             return AskAnswer::Barred { by };
         }
-        if u64::MAX - self.long < clock || self.table.running(clock) >= MOST {
+        if u64::MAX - self.long < clock || self.table.is_full(clock) {
             return AskAnswer::Exhausted;
         }
         let Counts { done, voided } = self.counts(&ask.head);

@@ -1,15 +1,21 @@
-use Rattle.std.proofs.Common.{ℕ, List, ◌++◌, vec_items, sym, ap, ◌∙◌, arith}
-use Rattle.std.proofs.lemmas.List.{at_drop_all, append-nil}
+use Rattle.std.proofs.Common.{◌≡◌, ℕ, ◌+◌, ◌*◌, ◌-◌, List, [], ◌++◌, length, take, drop, ap, ◌∙◌, rules, arith}
+use Rattle.std.proofs.lemmas.List.{drop_all, append-nil, length-take, length-drop}
 use Rattle.lines.specs.Hex.{hex_text}
-use Rattle.lines.proofs.HexTexts.{text_step}
+use Rattle.lines.proofs.HexTexts.{length_text, tail_written, filled_up}
 use Rattle.lines.proofs.hex.push_hex.Goals as goal
-
-pub loop-b-preserved : goal.loop-b-preserved
-loop-b-preserved c =
-    (text_step _ _ _ c.args.bytes.now c.loop-b.b-index _ _ (omega arith) c.letter.ensures c.letter-in-loop-b.ensures c.push_reserved.ensures.items c.push_reserved-in-loop-b.ensures.items ∙ c.loop-b.invariant.0, omega arith)
 
 pub returns : goal.returns
 returns c =
-    let was : List ℕ = vec_items c.loop-b.out in
-    sym (append-nil was) ∙ sym (at_drop_all (λ (bs : List ℕ). was ++ hex_text bs) c.args.bytes.now c.loop-b.b-index (omega arith))
-    ∙ c.loop-b.invariant.0 ∙ ap (λ (q : List ℕ). q ++ hex_text c.args.bytes.now) c.reserve.ensures.items
+    let start = c.len-start.result in
+    let items : List ℕ = c.resize.new.self.items in
+    let all : List ℕ = c.deref_mut.result.now in
+    let bytes = c.args.bytes.now in
+    let digits : c.in_ok-digits.digits ≡ 2 * length bytes = search rules in
+    let long : length items ≡ start + 2 * length bytes = search rules in
+    let size : c.in_ok-ok_or.field-0 ≡ start + 2 * length bytes = search rules in
+    let front = filled_up c.args.out.now.items items _ start c.in_ok-ok_or.field-0 c.in_ok-resize.ensures.items (omega arith) (omega (arith, size)) in
+    let tail : List ℕ = take (length all - start) (drop start all) in
+    let over : drop (2 * length bytes) tail ≡ [] = drop_all (2 * length bytes) tail (omega (arith, length-take (length all - start) (drop start all), length-drop start all)) in
+    let text : c.write_digits.new.out ≡ hex_text bytes = c.write_digits.ensures ∙ ap (λ (q : List ℕ). hex_text bytes ++ q) over ∙ append-nil (hex_text bytes) in
+    tail_written items all c.write_digits.new.out _ start _ c.deref_mut.ensures.value (omega arith) (omega (arith, ap length text, length_text bytes, long)) (drop_all (length all - start) (drop start all) (omega (arith, length-drop start all)))
+    ∙ ap (λ (q : List ℕ). q ++ c.write_digits.new.out) front ∙ ap (λ (q : List ℕ). c.args.out.now.items ++ q) text
