@@ -29,8 +29,9 @@ impl Lease {
     pub fn bars(&self, clock: u64, ask: &Ask) -> bool
         ensures { result ≡ barring_ask clock ask.now self.now }
     {
-        self.runs(clock)
-            && self.place == ask.head.place.at
+        // The part comes first: it is what most leases of a full table differ in.
+        self.place == ask.head.place.at
+            && self.runs(clock)
             && self.who != ask.head.who.id
             && (ask.kind.is_writing() || self.kind.is_writing())
     }
@@ -39,8 +40,8 @@ impl Lease {
     pub fn allows(&self, clock: u64, write: &Head) -> bool
         ensures { result ≡ allowing_write clock write.now self.now }
     {
-        self.runs(clock)
-            && self.place == write.place.at
+        self.place == write.place.at
+            && self.runs(clock)
             && self.who == write.who.id
             && self.kind.is_writing()
     }

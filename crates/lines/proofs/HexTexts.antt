@@ -1,13 +1,28 @@
 -- What the digits of a hexadecimal text stand for.
 -- Assumes nothing.
-use Rattle.std.proofs.Common.{◌≡◌, ℕ, suc, ◌+◌, ◌-◌, ◌*◌, ◌/◌, ◌%◌, ◌<◌, ◌≤◌, true, ◌&&◌, ltb, leb, List, [], ◌∷◌, ◌++◌, length, get_or, take, drop, set, is_some, Some, Option, unwrap_or, sym, refl, ap, ◌∙◌, arith}
+use Rattle.std.proofs.Common.{◌≡◌, ℕ, suc, ◌+◌, ◌-◌, ◌*◌, ◌/◌, ◌%◌, ◌<◌, ◌≤◌, true, ◌&&◌, ltb, leb, List, [], ◌∷◌, ◌++◌, length, get_or, take, drop, set, map, is_some, Some, None, Option, unwrap_or, sym, refl, ap, ◌∙◌, arith}
 use Rattle.std.proofs.lemmas.List.{at_drop_more, drop_more, drop_all, take_more_set, drop-set-lt, take_rest, append_assoc, append-nil, take-append-drop, take_all, length-set, length-append, length-take}
 use Rattle.std.proofs.lemmas.Bool.{cond_both, cond-true, cond-false, leb-true, le-leb, lt-leb, ltb-true, ltb-false, lt-ltb, eq-eqb, and_parts, and_from, and_right}
 use Rattle.std.proofs.Math.Seq.{take-append_seam}
+use Rattle.std.specs.List.{range_with_len}
+use Rattle.std.proofs.lemmas.List.FromFn.{get_or-map-range_with_len}
 use Rattle.lines.specs.Hex.{hex_digit, hex_value, all_hex, is_hex, hex_bytes, fronted, hex_letter, hex_text}
 
 between_true : (a b n : ℕ) → (leb a n && leb n b) ≡ true → n ≤ b
 between_true a b n e = leb-true n b (and_parts (leb a n) (leb n b) e).1
+
+-- a table of the digits of all bytes, with 255 where there is none, has it for each byte
+pub by_table : (xs : List ℕ) → xs ≡ map (λ b. unwrap_or (hex_digit b) 255) (range_with_len 0 256) → (b d : ℕ) → b < 256 → get_or xs b d ≡ unwrap_or (hex_digit b) 255
+by_table xs e b d h =
+    ap (λ (q : List ℕ). get_or q b d) e ∙ get_or-map-range_with_len (λ x. unwrap_or (hex_digit x) 255) 0 256 b b d h (omega arith)
+
+pub is_digit : (o : Option ℕ) (v : ℕ) → v < 16 → v ≡ unwrap_or o 255 → Some v ≡ o
+is_digit None v h e = absurd (omega (arith, e, h))
+is_digit (Some w) v h e = ap (λ (n : ℕ). Some n) e
+
+pub no_digit : (o : Option ℕ) (v : ℕ) → 16 ≤ v → v ≡ unwrap_or o 255 → unwrap_or o 0 < 16 → None ≡ o
+no_digit None v h e s = refl
+no_digit (Some w) v h e s = absurd (omega (arith, e, h, s))
 
 -- a digit is below 16
 pub value_small : (b : ℕ) → hex_value b < 16

@@ -3,3 +3,4 @@ pub mod HexTexts
 pub mod Splits
 pub mod Prints
 pub mod Handing
+pub mod Firsts

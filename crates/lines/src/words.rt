@@ -3,13 +3,15 @@ ghost use Rattle.std.specs.Option.{option_map};
 ghost use Rattle.std.specs.Str.{bytes_eq};
 ghost use Rattle.lines.specs.Words.{before, behind, words, rest_words};
 
+use memchr::memchr;
+
 const SPACE: u8 = b' ';
 
 /// Where the first mark stands in a text, where there is one.
 pub fn find(text: &[u8], mark: u8) -> Option<usize>
     ensures { result ≡ position (λ b. b == mark) text.now }
 {
-    text.iter().position(|b| *b == mark)
+    memchr(mark, text)
 }
 
 /// The first word of a text, and what stands behind the space that ends it, where there is a space.

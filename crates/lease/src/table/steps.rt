@@ -22,7 +22,7 @@ fn marks(leases: &[Lease], clock: u64, ask: &Ask) -> [bool; 32]
     for l in leases {
         // `as usize` stays: with `usize::from` the proof did not close.
         let w = l.who as usize;
-        if w < 32 && l.bars(clock, ask) {
+        if l.bars(clock, ask) && w < 32 {
             marks[w] = true;
         }
     }
