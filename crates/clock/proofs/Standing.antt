@@ -36,7 +36,7 @@ reading_is time hands j h = ap (point time) (shown_at hands j h)
 
 -- THE MOMENTS SO FAR
 
-later_after : (o n : Moment) (p : Passing) → Later o n → Later o (after n p)
+pub later_after : (o n : Moment) (p : Passing) → Later o n → Later o (after n p)
 later_after o n p h = record { true = omega (arith, h.true); hand = λ j. omega (arith, h.hand j) }
 
 later_refl : (n : Moment) → Later n n

@@ -1,12 +1,7 @@
 -- What stays of the keeper through every step, and what it is in the world after it came up.
 -- Assumes nothing.
 use Rattle.std.proofs.Common.{◌≡◌, ℕ, ◌+◌, true, false, List, [], Some, None, Option, refl, ap, ◌∙◌}
-use Rattle.message.specs.declared.kind.Kind.{Kind}
-use Rattle.message.specs.Format.{Msg, Ask, Loan, Write, In, Void, Recall, Back}
-use Rattle.lender.specs.declared.answer.AskAnswer.{AskAnswer}
-use Rattle.lender.specs.declared.answer.AskAnswer.TheVariants as ask
-use Rattle.lender.specs.declared.answer.WriteAnswer.{WriteAnswer}
-use Rattle.lender.specs.declared.answer.WriteAnswer.TheVariants as write
+use Rattle.message.specs.Format.{Msg}
 use Rattle.lender.specs.declared.keeper.Keeper.{Keeper}
 use Rattle.journal.specs.declared.record.Owner.TheVariants as owner
 use Rattle.journal.specs.Records.{bytes_of, records_of}
@@ -16,34 +11,14 @@ use Rattle.lender.specs.OnDisk.{OnDisk}
 use Rattle.lender.specs.Rules.{risen}
 use Rattle.world.specs.World.{Lender, recovered, keeper_up}
 use Rattle.world.proofs.Files.{cut_journal}
-use Rattle.lender.specs.Rules.{Book, ask_answer, after_ask, write_answer, after_write}
+use Rattle.world.proofs.Time.{book_long}
+use Rattle.lender.specs.Rules.{Book}
 use Rattle.lender.specs.Replies.{heard_book}
 use Rattle.site.specs.OneKeeper.{lender_with}
 
 -- how long a lease runs is never changed
-asked_long : (c i q n : ℕ) (k : Kind) (l : ℕ) (a : AskAnswer) (m : Book) → (after_ask c i q n k l a m).long ≡ m.long
-asked_long c i q n k l (ask.Granted true) m = refl
-asked_long c i q n k l (ask.Granted false) m = refl
-asked_long c i q n k l ask.Quiet m = refl
-asked_long c i q n k l (ask.Barred by) m = refl
-asked_long c i q n k l ask.Exhausted m = refl
-
-wrote_long : (i q n : ℕ) (a : WriteAnswer) (m : Book) → (after_write i q n a m).long ≡ m.long
-wrote_long i q n write.Applied m = refl
-wrote_long i q n write.Again m = refl
-wrote_long i q n write.Void m = refl
-wrote_long i q n write.Passed m = refl
-wrote_long i q n write.Quiet m = refl
-
 pub heard_long : (c : ℕ) (o : Option Msg) (m : Book) → (heard_book c o m).long ≡ m.long
-heard_long c None m = refl
-heard_long c (Some (Ask i q n k l)) m = asked_long c i q n k l (ask_answer c i q k l m) m
-heard_long c (Some (Loan i q n k v)) m = refl
-heard_long c (Some (Write i q n v)) m = wrote_long i q n (write_answer c i q n m) m
-heard_long c (Some (In i q n)) m = refl
-heard_long c (Some (Void i q n)) m = refl
-heard_long c (Some (Recall i q)) m = refl
-heard_long c (Some (Back i q n)) m = refl
+heard_long = book_long
 
 pub file_is : (o : Option Keeper) (l : ℕ) (f : List ℕ) → (lender_with o l f).file ≡ f
 file_is None l f = refl

@@ -10,7 +10,7 @@ mod Wire
 mod Good
 mod Hears
 mod Serves
-mod Time
+pub mod Time
 mod Tick
 mod Events
 pub mod Whole

@@ -7,7 +7,7 @@ use Rattle.std.proofs.lemmas.Bool.{cond_both}
 use Rattle.clock.specs.Moments.{million, Moment, Passing, after, Keeps, Between, Pairs, Within, Later}
 use Rattle.clock.specs.Terms.{Fits}
 use Rattle.clock.proofs.Safe.{terms_safe}
-use Rattle.clock.proofs.Standing.{earlier}
+use Rattle.clock.proofs.Standing.{earlier, later_after}
 use Rattle.message.specs.declared.kind.Kind.{Kind}
 use Rattle.message.specs.Format.{Msg, Ask, Loan, Write, In, Void, Recall, Back}
 use Rattle.message.specs.Reading.{read}
@@ -47,7 +47,7 @@ write_long i q n write.Void b = refl
 write_long i q n write.Passed b = refl
 write_long i q n write.Quiet b = refl
 
-book_long : (c : ℕ) (o : Option Msg) (b : Book) → (heard_book c o b).long ≡ b.long
+pub book_long : (c : ℕ) (o : Option Msg) (b : Book) → (heard_book c o b).long ≡ b.long
 book_long c None b = refl
 book_long c (Some (Ask i q n k l)) b = ask_long c i q n k l (ask_answer c i q k l b) b
 book_long c (Some (Loan i q n k v)) b = refl
@@ -89,9 +89,6 @@ timely r (call i q c v t) = inl (ap (λ (m : Moment). m ∷ r.past) (cond_both (
 timely r (deliver m n x t) = inl (ap (λ (m : Moment). m ∷ r.past) (cond_both (is_up x r.world) (arrived x (cut m n r.world) t r.world) r.world (Still r.world) (λ e. arrived_still r.world x (cut m n r.world) t) (λ e. still r.world)).now)
 timely r (stop x) = inl (ap (λ (m : Moment). m ∷ r.past) (cond_both (is_up x r.world) (stopped x r.world) r.world (Still r.world) (λ e. stopped_still r.world x) (λ e. still r.world)).now)
 timely r (up x) = inl (ap (λ (m : Moment). m ∷ r.past) (cond_both (is_up x r.world) r.world (risen_from x r.world) (Still r.world) (λ e. still r.world) (λ e. risen_still r.world x)).now)
-
-later_after : (o n : Moment) (p : Passing) → Later o n → Later o (after n p)
-later_after o n p h = record { true = omega (arith, h.true); hand = λ i. omega (arith, h.hand i) }
 
 pub ordered : (r : Run) (e : Event) → Pairs Later (moments r) → Pairs Later (moments (next r e))
 unfolding Pairs
