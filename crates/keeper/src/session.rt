@@ -18,11 +18,13 @@ pub struct Session<S> {
 }
 
 impl<S: Store> Session<S> {
-    ghost use Rattle.std.specs.Prelude.{OnOk};
-    ghost use Rattle.keeper.specs.Sessions.{Settled};
+    ghost use Rattle.std.specs.Prelude.{◌≡◌, false, OnOk};
+    ghost use Rattle.keeper.specs.Sessions.{Settled, ReadAt};
 
     /// It comes up with the first line.
-    pub fn new(keeper: Keeper, store: S) -> Session<S> {
+    pub fn new(keeper: Keeper, store: S) -> Session<S>
+        ensures { (result.last ≡ 0) × (result.up ≡ false) }
+    {
         Session {
             keeper,
             store,
@@ -33,7 +35,8 @@ impl<S: Store> Session<S> {
 
     // The clock reads this: the keeper comes up if it is not, and time never goes back.
     fn read_clock(&mut self, clock: u64) -> Result<(), Refusal>
-        ensures { Settled self.old.keeper (S.disk self.old.store) → Settled self.new.keeper (S.disk self.new.store) }
+        ensures settled { Settled self.old.keeper (S.disk self.old.store) → Settled self.new.keeper (S.disk self.new.store) }
+        ensures read { ReadAt self.old self.new clock result }
     {
         if clock < self.last {
             return Err(Refusal::Malformed);

@@ -22,8 +22,12 @@ pub struct Session<S> {
 }
 
 impl<S: Store> Session<S> {
+    ghost use Rattle.std.specs.Prelude.{◌≡◌};
+
     /// It is up from the start.
-    pub fn new(tablet: Tablet, store: S) -> Session<S> {
+    pub fn new(tablet: Tablet, store: S) -> Session<S>
+        ensures { result.last ≡ 0 }
+    {
         Session {
             tablet,
             store,
