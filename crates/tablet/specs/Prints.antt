@@ -1,10 +1,13 @@
 -- What a tablet prints, behind what was printed before.
 -- Assumes nothing.
-use Rattle.std.specs.Prelude.{ℕ, ◌/◌, ◌%◌, List, [], ◌∷◌, ◌++◌, codes, decimal, Some, None, Option}
+use Rattle.std.specs.Prelude.{ℕ, ◌/◌, ◌%◌, List, [], ◌∷◌, ◌++◌, codes, decimal, Some, None, Ok, Err, Option, Result}
 use Rattle.lines.specs.Hex.{hex_text}
 use Rattle.message.specs.declared.form.Message.{Message}
 use Rattle.message.specs.declared.form.Message.TheVariants.{Ask, Loan, Write, In, Void, Recall, Back}
 use Rattle.message.specs.Format.{said}
+use Rattle.message.specs.declared.refusal.Refusal.{Refusal}
+use Rattle.borrower.specs.declared.outcome.Call.{Call}
+use Rattle.borrower.specs.declared.outcome.Call.TheVariants as what
 use Rattle.borrower.specs.declared.outcome.Outcome.{Outcome}
 use Rattle.startup.specs.Prints.{sent_text, answer_text}
 
@@ -15,6 +18,14 @@ place_behind w q = ((w ++ decimal (q / 256)) ++ codes " ") ++ decimal (q % 256)
 -- show F P HEX
 abbrev pub shown_behind : List ℕ → (place : ℕ) → (bytes : List ℕ) → List ℕ
 shown_behind w q v = ((place_behind (w ++ codes "show ") q ++ codes " ") ++ hex_text v) ++ (10 ∷ [])
+
+-- the copy of a part, where a call to show it went well
+abbrev pub showing_behind : List ℕ → Call → Result (Unit {0}) Refusal → (place : ℕ) → (bytes : List ℕ) → List ℕ
+showing_behind w (what.Ask k) r q v = w
+showing_behind w what.Show (Ok u) q v = shown_behind w q v
+showing_behind w what.Show (Err e) q v = w
+showing_behind w what.Write r q v = w
+showing_behind w what.Forget r q v = w
 
 -- in F P N, or void F P N
 abbrev pub word_behind : List ℕ → (word : List ℕ) → (place number : ℕ) → List ℕ

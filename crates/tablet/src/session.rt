@@ -1,4 +1,4 @@
-use crate::line::{Act, parse};
+use crate::line::{Act, Said, parse};
 use crate::print;
 use anyhow::Result;
 use borrower::outcome::Call;
@@ -9,6 +9,7 @@ use message::refusal::Refusal;
 use part::place::Place;
 use startup::print::refused;
 use startup::serve::Answers;
+use std::alloc::AllocError;
 
 // One byte more than the longest message has, so that no longer one is taken for a message.
 const ROOM: usize = 1034;
@@ -22,7 +23,11 @@ pub struct Session<S> {
 }
 
 impl<S: Store> Session<S> {
-    ghost use Rattle.std.specs.Prelude.{◌≡◌};
+    ghost use Rattle.std.specs.Prelude.{◌≡◌, take, OnOk};
+    ghost use Rattle.lines.specs.Outputs.{printed};
+    ghost use Rattle.borrower.specs.Tablets.{copy_at};
+    ghost use Rattle.tablet.specs.Prints.{showing_behind};
+    ghost use Rattle.tablet.specs.Sessions.{ReadAt, Received, Performed, Acted};
 
     /// It is up from the start.
     pub fn new(tablet: Tablet, store: S) -> Session<S>
@@ -35,10 +40,39 @@ impl<S: Store> Session<S> {
         }
     }
 
+    // The clock reads this: time never goes back.
+    fn read_clock(&mut self, clock: u64) -> Result<(), Refusal>
+        ensures { ReadAt self.old self.new clock result }
+    {
+        if clock < self.last {
+            return Err(Refusal::Malformed);
+        }
+        self.last = clock;
+        Ok(())
+    }
+
     // A message comes.
-    fn receive(&mut self, message: &[u8], out: &mut Output) -> Result<()> {
+    fn receive(&mut self, message: &[u8], out: &mut Output) -> Result<()>
+        ensures { OnOk result (Received self.old.tablet self.new.tablet message.now (printed out.old) (printed out.new)) }
+    {
         let outcome = self.tablet.hear(&mut self.store, message)?;
         Ok(print::outcome(out, outcome, &[0; 1024])?)
+    }
+
+    // Prints the copy of a part, where a call to show it went well.
+    fn show(
+        &self,
+        call: Call,
+        place: Place,
+        answer: Result<(), Refusal>,
+        out: &mut Output,
+    ) -> Result<(), AllocError>
+        ensures { OnOk result (printed out.new ≡ showing_behind (printed out.old) call answer place.at (copy_at self.now.tablet place.at)) }
+    {
+        match (call, answer) {
+            (Call::Show, Ok(())) => print::shown(out, place, self.tablet.copy(place)),
+            (Call::Show, Err(_)) | (Call::Ask(_) | Call::Write | Call::Forget, _) => Ok(()),
+        }
     }
 
     // A call, with the bytes of a write at the front of the buffer. A copy's bytes leave only where they may be shown, and
@@ -50,12 +84,23 @@ impl<S: Store> Session<S> {
         place: Place,
         buffer: &[u8; ROOM],
         out: &mut Output,
-    ) -> Result<()> {
+    ) -> Result<()>
+        ensures { OnOk result (Performed self.old.tablet self.new.tablet clock place.at call (take 1024 buffer.now) (printed out.old) (printed out.new)) }
+    {
         let outcome = self.tablet.call(&mut self.store, clock, place, call)?;
-        if call == Call::Show && outcome.answer.is_ok() {
-            print::shown(out, place, self.tablet.copy(place))?;
-        }
+        self.show(call, place, outcome.answer, out)?;
         Ok(print::outcome(out, outcome, buffer.first_chunk().unwrap())?)
+    }
+
+    // What a line asks for, with what it wrote to the buffer.
+    fn act(&mut self, said: Said, buffer: &[u8; ROOM], out: &mut Output) -> Result<()>
+        ensures { OnOk result (Acted self.old.tablet self.new.tablet said.clock said.act buffer.now (printed out.old) (printed out.new)) }
+    {
+        match said.act {
+            Act::Reading => Ok(out.text("done\n")?),
+            Act::Message(size) => self.receive(&buffer[0..size.min(ROOM)], out),
+            Act::Call(call, place) => self.call(said.clock, call, place, buffer, out),
+        }
     }
 }
 
@@ -66,15 +111,12 @@ impl<S: Store> Answers for Session<S> {
     // What the tablet sends, shows, is told and answers is printed.
     fn answer(&mut self, line: &[u8], out: &mut Output) -> Result<()> {
         let mut buffer = [0; ROOM];
-        let said = match parse(line, &mut buffer) {
-            Some(said) if said.clock >= self.last => said,
-            _ => return Ok(refused(out, Refusal::Malformed)?),
+        let Some(said) = parse(line, &mut buffer) else {
+            return Ok(refused(out, Refusal::Malformed)?);
         };
-        self.last = said.clock;
-        match said.act {
-            Act::Reading => Ok(out.text("done\n")?),
-            Act::Message(size) => self.receive(&buffer[0..size.min(ROOM)], out),
-            Act::Call(call, place) => self.call(said.clock, call, place, &buffer, out),
+        if let Err(refusal) = self.read_clock(said.clock) {
+            return Ok(refused(out, refusal)?);
         }
+        self.act(said, &buffer, out)
     }
 }
