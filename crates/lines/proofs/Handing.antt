@@ -1,6 +1,6 @@
 -- What is handed out of the bytes that were read, and what is left.
 -- Assumes nothing.
-use Rattle.std.proofs.Common.{◌≡◌, ℕ, ◌+◌, ◌-◌, ◌<◌, ◌≤◌, true, false, List, [], ◌++◌, length, take, drop, is_some, Some, None, Option, unwrap_or, sym, refl, ap, ◌∙◌, subst, arith}
+use Rattle.std.proofs.Common.{◌≡◌, ℕ, ◌+◌, ◌-◌, ◌<◌, ◌≤◌, true, false, List, [], ◌++◌, length, take, drop, is_some, Some, None, MatchOption, Option, unwrap_or, sym, refl, ap, ◌∙◌, subst, arith}
 use Rattle.std.proofs.lemmas.List.{drop-drop, take_all, take_at, length-drop, length-append, append_assoc, append-nil, nil_from_length}
 use Rattle.std.proofs.lemmas.Bool.{true≢false, false≢true}
 use Rattle.lines.specs.Words.{before, behind}
@@ -86,3 +86,8 @@ handed_whole was all line left seen r some l e = (
 pub handed_last : (l : Option Line) (was all line left : List ℕ) (seen : ℕ) → Reading was all seen → Handed l all line left
     → (got : List ℕ) × Handed l (was ++ got) line left
 handed_last l was all line left seen r h = (r.got, subst (λ (q : List ℕ). Handed l q line left) r.grown h)
+
+-- a line has its end in a text exactly where there is something behind the mark
+pub ended : (o : Option ℕ) (text : List ℕ) → MatchOption o (behind 10 text ≡ None) (λ i. (i ≡ length (before 10 text)) × (i < length text)) → is_some o ≡ is_some (behind 10 text)
+ended None text e = ap (λ (b : Option (List ℕ)). is_some b) (sym e)
+ended (Some i) text (e, h) = ap (λ (b : Option (List ℕ)). is_some b) (behind_some 10 text (omega (arith, e, h)))

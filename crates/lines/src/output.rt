@@ -1,4 +1,4 @@
-ghost use Rattle.std.specs.Prelude.{◌≡◌, ◌≤◌, [], ◌∷◌, length, decimal};
+ghost use Rattle.std.specs.Prelude.{◌≡◌, ◌≤◌, [], ◌∷◌, length, take, decimal};
 ghost use Rattle.lines.specs.Hex.{hex_text};
 ghost use Rattle.lines.specs.Outputs.{printed, appended_to, trimmed, trimmed_text};
 
@@ -88,6 +88,20 @@ impl Output {
         ensures { result.now ≡ printed self.now }
     {
         self.bytes.as_slice()
+    }
+
+    /// How many bytes are to be printed.
+    pub fn len(&self) -> usize
+        ensures { result ≡ length (printed self.now) }
+    {
+        self.bytes.len()
+    }
+
+    /// Keeps so many of the first bytes.
+    pub fn truncate(&mut self, size: usize)
+        ensures { printed self.new ≡ take size (printed self.old) }
+    {
+        self.bytes.truncate(size);
     }
 
     /// Lets go of what was to be printed.

@@ -19,8 +19,23 @@ pub trait Answers {
         ensures { OnOk result (keeps self.old → keeps self.new) };
 }
 
-/// Hands on each line of standard input, and writes out what was printed before the next one is read. A line that the end
-/// of the input cut short is refused.
+// Hands on a line, or refuses one that the end of the input cut short. Nothing is printed of a line that fails.
+fn hand_on<A: Answers>(to: &mut A, line: Line, text: &[u8], out: &mut Output) -> Result<()>
+    ensures { OnOk result (A.keeps to.old → A.keeps to.new) }
+{
+    let before = out.len();
+    let done = match line {
+        Line::Whole => to.answer(text, out),
+        Line::Cut => refused(out, Refusal::Malformed).map_err(anyhow::Error::from),
+    };
+    if done.is_err() {
+        out.truncate(before);
+    }
+    done
+}
+
+/// Hands on each line of standard input, and writes out what was printed before more has to be read: the answers of lines that
+/// are waiting together leave together. A line that the end of the input cut short is refused.
 pub fn serve<A: Answers>(rt: &HostRuntime, to: &mut A) -> Result<()>
     ensures { OnOk result (A.keeps to.old → A.keeps to.new) }
 {
@@ -30,13 +45,15 @@ pub fn serve<A: Answers>(rt: &HostRuntime, to: &mut A) -> Result<()>
     let mut out = Output::new(rt.alloc());
     // A count stays: a loop without one would ask for a handle that may wait. 2^64 lines are more than any input has.
     for _ in 0..u64::MAX {
-        match input.next_line(&mut stdin)? {
-            Some(Line::Whole) => to.answer(input.line(), &mut out)?,
-            Some(Line::Cut) => refused(&mut out, Refusal::Malformed)?,
-            None => break,
+        let Some(line) = input.next_line(&mut stdin)? else {
+            break;
+        };
+        let done = hand_on(to, line, input.line(), &mut out);
+        if done.is_err() || !input.has_line() {
+            stdout.write_all(out.as_slice())?;
+            out.clear();
         }
-        stdout.write_all(out.as_slice())?;
-        out.clear();
+        done?;
     }
     Ok(())
 }

@@ -54,6 +54,13 @@ impl Input {
         &self.held[self.first..self.last]
     }
 
+    /// Whether the next line is here already, with its end: then nothing has to be read for it.
+    pub fn has_line(&self) -> bool
+        ensures { result ≡ is_some (behind 10 (rest self.now)) }
+    {
+        line_end(self.left(), 0).is_some()
+    }
+
     // What was read and not yet handed out.
     fn left(&self) -> &[u8]
         ensures is { result.now ≡ rest self.now }
