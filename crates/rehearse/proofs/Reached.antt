@@ -16,7 +16,7 @@ use Rattle.script.specs.declared.step.Step.{Step}
 use Rattle.script.specs.declared.step.Step.TheVariants as step
 use Rattle.rehearse.specs.declared.rehearsal.Rehearsal.{Rehearsal}
 use Rattle.rehearse.specs.declared.rehearsal.Said.{Said}
-use Rattle.rehearse.specs.Played.{Fresh_site, SetTo, Ticked, EventPlayed, CallPlayed, TurnedAway, size_of, index_of, target_of, Played}
+use Rattle.rehearse.specs.Played.{AtFirst, SetTo, Ticked, EventPlayed, CallPlayed, TurnedAway, size_of, index_of, target_of, Played}
 
 on : (was is : Site) (e : Event) → Onward was is e → Reached was → Reached is
 on was is e o r = record { first = r.first; events = e ∷ r.events; led = o r.first r.events r.led }
@@ -24,7 +24,7 @@ on was is e o r = record { first = r.first; events = e ∷ r.events; led = o r.f
 same : (was is : Site) → is ≡ was → Reached was → Reached is
 same was is e r = subst Reached (sym e) r
 
-pub at_first : (t : Terms) (hands : List ℕ) (r : Rehearsal) → Fresh_site t hands r → Reached r.site
+pub at_first : (t : Terms) (hands : List ℕ) (r : Rehearsal) → AtFirst t hands r → Reached r.site
 at_first t hands r f = record { first = _; events = []; led = f.led }
 
 module _ (was is : Rehearsal) (said : Said) (before : Reached was.site) where

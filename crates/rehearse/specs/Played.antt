@@ -35,20 +35,20 @@ abbrev pub refused : Said
 refused = only (Err Malformed)
 
 -- at the true time 0, with these readings; nothing has happened yet
-pub record Fresh_site (t : Terms) (hands : List ℕ) (r : Rehearsal) : Type 0 where
+pub record AtFirst (t : Terms) (hands : List ℕ) (r : Rehearsal) : Type 0 where
   pub led : Led r.site (moment 0 hands) []
   pub judged_by : r.site.clocks.terms ≡ t
   pub terms : r.terms ≡ t
 
 -- a rehearsal as at first
 abbrev pub Started : Terms → (hands : List ℕ) → Rehearsal → Type 0
-Started t hands r = Fresh_site t hands r × (r.begun ≡ false)
+Started t hands r = AtFirst t hands r × (r.begun ≡ false)
 
 -- the first line says what the clocks show
 abbrev pub SetTo : (was is : Rehearsal) (keeper : ℕ) (borrowers : List ℕ) → Said → Type 0
 SetTo was is k bs said =
     MatchBool was.begun ((is ≡ was) × (said ≡ refused))
-    (Fresh_site was.terms (k ∷ slice_index bs 0 ∷ slice_index bs 1 ∷ slice_index bs 2 ∷ slice_index bs 3 ∷ []) is × (is.begun ≡ true) × (said ≡ only (Ok tt)))
+    (AtFirst was.terms (k ∷ slice_index bs 0 ∷ slice_index bs 1 ∷ slice_index bs 2 ∷ slice_index bs 3 ∷ []) is × (is.begun ≡ true) × (said ≡ only (Ok tt)))
 
 -- time goes on, exactly where every clock stays within its error
 abbrev pub Ticked : (was is : Rehearsal) (time : ℕ) (by : List ℕ) → Said → Type 0
