@@ -14,20 +14,22 @@ use Rattle.message.specs.Reading.{read}
 use Rattle.journal.specs.declared.record.Owner.TheVariants as owner
 use Rattle.journal.specs.Records.{Rec, AllSound, bytes_of, records_of}
 use Rattle.lender.proofs.OnDisk.{all_sound}
+use Rattle.borrower.specs.declared.outcome.Call.TheVariants as calls
+use Rattle.message.specs.declared.kind.Kind.TheVariants.{Writing}
 use Rattle.world.specs.World.{World, Lender, Node, Event, tick, call, deliver, keeper, borrower, with_keeper, with_borrower, with_sent, keeper_down, keeper_up, borrower_up, torn_file, long_of, keeper_effect, after_served, cut, can_call, called, arrived, is_up, stopped, risen_from, step}
 use Rattle.world.specs.World as world
-use Rattle.world.specs.Runs.{Put, puts, Run, whole, moments, next, past_by, start}
-use Rattle.world.specs.Batches.{Batching, Step, other, take_in, sync, stop, up, of_keeper, done_beside, taken, synced, file_left, world_left, risen_in, batch_step, BatchRun, batch_past, batch_next, batch_run, batch_start, seen, MadeBefore, LeavesFirst, BatchPromise, BatchTheorem}
-use Rattle.world.specs.Promise.{MayShow}
+use Rattle.world.specs.Runs.{Put, puts, Run, whole, moments, next, past_by, run, start}
+use Rattle.world.specs.Batches.{Batching, Step, other, take_in, sync, stop, up, of_keeper, done_beside, taken, synced, file_left, world_left, risen_in, batch_step, BatchRun, batch_past, batch_next, batch_run, batch_start, seen, MadeBefore, LeavesFirst, batch_to_write, BatchPromise, BatchTheorem}
+use Rattle.world.specs.Promise.{MayShow, to_write}
 use Rattle.world.proofs.Inv.{Setting, Clocked, each_at}
 use Rattle.world.proofs.Wire.{Carries, arrives}
 use Rattle.world.proofs.Files.{grown_records, torn_records}
 use Rattle.world.proofs.Good.{setting, Good, on}
 use Rattle.world.proofs.Events.{message, After, event_good}
 use Rattle.world.proofs.Serves as keepers
-use Rattle.world.proofs.Time.{Timely, timely, same_terms, risen_still, book_long, in_order, held_before, clocked}
+use Rattle.world.proofs.Time.{Timeless, same_moments, Timely, timely, same_terms, risen_still, book_long, in_order, held_before, clocked}
 use Rattle.world.proofs.Tick.{start_good}
-use Rattle.world.proofs.Whole.{promised, lasts}
+use Rattle.world.proofs.Whole.{promised, gets_to_write, lasts}
 
 -- as `seen` does, of a world
 abbrev at : World → List Moment → Run
@@ -406,6 +408,26 @@ module _ (S : Setting) (first : BatchRun) (steps : List Step) where
         go true = same_kept up
         go false = up_kept
 
+-- A MESSAGE THAT IS TAKEN AND SYNCED by itself, while nothing is held back, is one that is delivered
+alone_is : (b : Batching) (m n : ℕ) → b.held ≡ [] → (batch_step (batch_step b (take_in m n)) sync).world ≡ step b.world (deliver m n keeper None)
+alone_is b m n e = go b.world.keeper.up
+  where
+    go : (u : Bool) → (synced (cond u (taken (cut m n b.world) b) b)).world ≡ cond u (arrived keeper (cut m n b.world) None b.world) b.world
+    go true = ap (λ (hs : List Msg). with_sent (hs ++ (keeper_effect (cut m n b.world) b.world).sends) (with_keeper (after_served (cut m n b.world) b.world) b.world)) e
+    go false =
+        ap (λ (hs : List Msg). with_sent hs b.world) e
+        ∙ ap (λ (bs : List (List ℕ)). record { now = b.world.now; short = b.world.short; keeper = b.world.keeper; borrower = b.world.borrower; sent = bs }) (append-nil b.world.sent)
+
+same_way : (r : BatchRun) (i q : ℕ) (v : List ℕ) → r.now.held ≡ [] → (batch_run r (batch_to_write i q v r.now.world)).now.world ≡ (run (seen r) (to_write i q v r.now.world)).world
+unfolding batch_run run
+same_way r i q v e =
+    let w = r.now.world in
+    let asked = batch_step (batch_step r.now (other (call i q calls.Forget v None))) (other (call i q (calls.Ask Writing) v None)) in
+    let lent = batch_step (batch_step asked (take_in (length w.sent) 2000)) sync in
+    let wrote = batch_step (batch_step lent (other (deliver (length w.sent + 1) 2000 (borrower i) None))) (other (call i q calls.Write v None)) in
+    alone_is wrote (length w.sent + 2) 2000 refl
+    ∙ ap (λ (x : World). step (step (step x (deliver (length w.sent + 1) 2000 (borrower i) None)) (call i q calls.Write v None)) (deliver (length w.sent + 2) 2000 keeper None)) (alone_is asked (length w.sent) 2000 e)
+
 -- EVERY RUN
 module _ (rate short long grain : ℕ) (m : Moment) (fits : Fits rate short long) (pos : 0 < grain) where
   abbrev S' : Setting
@@ -425,6 +447,33 @@ module _ (rate short long grain : ℕ) (m : Moment) (fits : Fits rate short long
       let before = held_before (Between rate grain) (reach ss).now.world.now (reach ss).past (moments (seen (batch_next (reach ss) s))) (batch_timely (reach ss) s) h in
       step_kept S' from ss (terms_are short long m ss) (clocked rate short long grain fits pos (reach ss).now.world.now (reach ss).past before (batch_order short long m ss)) (kept_by ss before) s
 
+  -- a run of the world in which no time passes stays good
+  record Going (r : Run) : Type 0 where
+    pub made : List Msg
+    pub good : Good S' r made
+    pub terms : setting r.world ≡ S'
+    pub within : Within rate grain (moments r)
+    pub order : Pairs Later (moments r)
+
+  goes_on : (r : Run) (e : Event) → Timeless e → Going r → Going (next r e)
+  goes_on r e z g =
+      let a = event_kept S' r g.made g.terms g.good (clocked rate short long grain fits pos r.world.now r.past g.within g.order) e in
+      let s = same_moments r e z in
+      record { made = g.made ++ a.new; good = a.good; terms = same_terms r.world e ∙ g.terms; within = subst (Within rate grain) (sym s) g.within; order = subst (Pairs Later) (sym s) g.order }
+
+  AllTimeless : List Event → Type 0
+  AllTimeless [] = Unit {0}
+  AllTimeless (e ∷ es) = Timeless e × AllTimeless es
+
+  going : (r : Run) (es : List Event) → AllTimeless es → Going r → Going (run r es)
+  unfolding run AllTimeless
+  going r [] z g = g
+  going r (e ∷ es) z g = goes_on (run r es) e z.0 (going r es z.1 g)
+
+  filed_so : (r : Run) (i q : ℕ) (v : List ℕ) (x : World) → Going r → (run r (to_write i q v x)).applied ≡ puts (records_of owner.Keeper (run r (to_write i q v x)).world.keeper.file) []
+  unfolding AllTimeless
+  filed_so r i q v x g = (going r (to_write i q v x) (tt, (tt, (tt, (tt, (tt, (tt, tt)))))) g).good.keeper.on_disk
+
   promise : (steps : List Step) → Within rate grain (moments (seen (reach steps))) → BatchPromise from steps (reach steps)
   promise steps h =
       let k = kept_by steps h in
@@ -433,6 +482,10 @@ module _ (rate short long grain : ℕ) (m : Moment) (fits : Fits rate short long
       record {
         holds = promised S' (seen (reach steps)) k.now.made k.now.good t l.0 l.1;
         only_writes = λ p x. k.now.writes p (k.now.good.inv.puts p x).1;
+        can_write = λ i q v u e.
+            let G : Going (seen (reach steps)) = record { made = k.now.made; good = k.now.good; terms = t; within = h; order = batch_order short long m steps } in
+            let wrote = gets_to_write S' (seen (reach steps)) k.now.made k.now.good t l.0 l.1 i q v u in
+            (_, ap (λ (x : World). puts (records_of owner.Keeper x.keeper.file) []) (same_way (reach steps) i q v e) ∙ sym (filed_so (seen (reach steps)) i q v (reach steps).now.world G) ∙ wrote.0);
         left = λ n. (k.front n, promised S' (at (world_left n (reach steps).now) (reach steps).past) (k.left n).made (k.left n).good t l.0 l.1);
       }
 

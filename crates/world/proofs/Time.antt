@@ -82,6 +82,21 @@ same_terms w (deliver m n x t) = (cond_both (is_up x w) (arrived x (cut m n w) t
 same_terms w (stop x) = (cond_both (is_up x w) (stopped x w) w (Still w) (λ e. stopped_still w x) (λ e. still w)).terms
 same_terms w (up x) = (cond_both (is_up x w) w (risen_from x w) (Still w) (λ e. still w) (λ e. risen_still w x)).terms
 
+-- no time passes
+abbrev pub Timeless : Event → Type 0
+Timeless (tick p) = ⊥
+Timeless (call i q c v t) = Unit {0}
+Timeless (deliver m n x t) = Unit {0}
+Timeless (stop x) = Unit {0}
+Timeless (up x) = Unit {0}
+
+pub same_moments : (r : Run) (e : Event) → Timeless e → moments (next r e) ≡ moments r
+same_moments r (tick p) z = absurd z
+same_moments r (call i q c v t) z = ap (λ (m : Moment). m ∷ r.past) (cond_both (can_call i q v r.world) (called i q c v t r.world) r.world (Still r.world) (λ e. called_still r.world i q c v t) (λ e. still r.world)).now
+same_moments r (deliver m n x t) z = ap (λ (m : Moment). m ∷ r.past) (cond_both (is_up x r.world) (arrived x (cut m n r.world) t r.world) r.world (Still r.world) (λ e. arrived_still r.world x (cut m n r.world) t) (λ e. still r.world)).now
+same_moments r (stop x) z = ap (λ (m : Moment). m ∷ r.past) (cond_both (is_up x r.world) (stopped x r.world) r.world (Still r.world) (λ e. stopped_still r.world x) (λ e. still r.world)).now
+same_moments r (up x) z = ap (λ (m : Moment). m ∷ r.past) (cond_both (is_up x r.world) r.world (risen_from x r.world) (Still r.world) (λ e. still r.world) (λ e. risen_still r.world x)).now
+
 -- the moments are as they were, or there is one more
 abbrev pub Timely : (now : Moment) (past is : List Moment) → Type 0
 Timely now past is = (is ≡ now ∷ past) ⊎ ((p : Passing) × (is ≡ after now p ∷ (now ∷ past)))
@@ -89,10 +104,10 @@ Timely now past is = (is ≡ now ∷ past) ⊎ ((p : Passing) × (is ≡ after n
 -- an event leaves the time, or is a tick
 pub timely : (r : Run) (e : Event) → Timely r.world.now r.past (moments (next r e))
 timely r (tick p) = inr (p, refl)
-timely r (call i q c v t) = inl (ap (λ (m : Moment). m ∷ r.past) (cond_both (can_call i q v r.world) (called i q c v t r.world) r.world (Still r.world) (λ e. called_still r.world i q c v t) (λ e. still r.world)).now)
-timely r (deliver m n x t) = inl (ap (λ (m : Moment). m ∷ r.past) (cond_both (is_up x r.world) (arrived x (cut m n r.world) t r.world) r.world (Still r.world) (λ e. arrived_still r.world x (cut m n r.world) t) (λ e. still r.world)).now)
-timely r (stop x) = inl (ap (λ (m : Moment). m ∷ r.past) (cond_both (is_up x r.world) (stopped x r.world) r.world (Still r.world) (λ e. stopped_still r.world x) (λ e. still r.world)).now)
-timely r (up x) = inl (ap (λ (m : Moment). m ∷ r.past) (cond_both (is_up x r.world) r.world (risen_from x r.world) (Still r.world) (λ e. still r.world) (λ e. risen_still r.world x)).now)
+timely r (call i q c v t) = inl (same_moments r (call i q c v t) tt)
+timely r (deliver m n x t) = inl (same_moments r (deliver m n x t) tt)
+timely r (stop x) = inl (same_moments r (stop x) tt)
+timely r (up x) = inl (same_moments r (up x) tt)
 
 pub in_order : (now : Moment) (past is : List Moment) → Timely now past is → Pairs Later (now ∷ past) → Pairs Later is
 unfolding Pairs

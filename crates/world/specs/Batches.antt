@@ -9,11 +9,11 @@ use Rattle.message.specs.Format.{Msg}
 use Rattle.message.specs.declared.kind.Kind.TheVariants.{Writing}
 use Rattle.journal.specs.declared.record.Owner.TheVariants as owner
 use Rattle.journal.specs.Records.{Rec, records_of}
-use Rattle.borrower.specs.declared.outcome.Call.TheVariants.{Write}
+use Rattle.borrower.specs.declared.outcome.Call.TheVariants.{Ask, Write, Forget}
 use Rattle.world.specs.World.{World, Event, Node, tick, call, deliver, keeper, borrower, with_keeper, with_sent, keeper_down, long_of, keeper_effect, after_served, cut, risen_from, first_world}
 use Rattle.world.specs.World as world
 use Rattle.world.specs.Runs.{Put, puts, Run, past_by}
-use Rattle.world.specs.Promise.{MayShow, Holds}
+use Rattle.world.specs.Promise.{MayShow, Unhindered, Holds}
 
 -- the world, of whose keeper's journal all is there that was appended, and of whose messages those that have left; the messages that the
 -- keeper holds back; and how many bytes of its journal are known to be on its disk
@@ -111,12 +111,28 @@ pub record MadeBefore (first : BatchRun) (steps : List Step) (p : Put) : Type 0 
 abbrev pub LeavesFirst : (left : ℕ) → Batching → Type 0
 LeavesFirst n b = (more : List Rec) × (records_of owner.Keeper b.world.keeper.file ≡ records_of owner.Keeper (file_left n b) ++ more)
 
+-- A borrower forgets its copy and asks, the keeper takes the ask and syncs, the loan arrives, it writes, the keeper takes the write and
+-- syncs: the newest step first
+abbrev pub batch_to_write : (who place : ℕ) (bytes : List ℕ) → World → List Step
+batch_to_write i q v w =
+    sync ∷
+    take_in (length w.sent + 2) 2000 ∷
+    other (call i q Write v None) ∷
+    other (deliver (length w.sent + 1) 2000 (borrower i) None) ∷
+    sync ∷
+    take_in (length w.sent) 2000 ∷
+    other (call i q (Ask Writing) v None) ∷
+    other (call i q Forget v None) ∷ []
+
 pub record BatchPromise (first : BatchRun) (steps : List Step) (r : BatchRun) : Type 0 where
   -- all that holds of a run in which each message is synced by itself
   pub holds : Holds (seen r)
   pub only_writes : (p : Put) → Memᴰ p (seen r).applied → MadeBefore first steps p
   -- and whatever a stop would leave, wherever it came, all of it holds of that
   pub left : (n : ℕ) → LeavesFirst n r.now × Holds (seen (batch_next r (stop n)))
+  -- whom nothing hinders gets to write, where nothing is held back
+  pub can_write : (i q : ℕ) (v : List ℕ) → Unhindered r.now.world i q v → r.now.held ≡ [] →
+      (n : ℕ) × ((seen (batch_run r (batch_to_write i q v r.now.world))).applied ≡ record { who = i; place = q; number = n; bytes = v } ∷ (seen r).applied)
 
 -- THE THEOREM, for any steps, in any order, while the terms fit and the clocks have kept within their stated error
 abbrev pub BatchTheorem : Type 0
