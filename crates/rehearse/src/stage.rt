@@ -46,6 +46,9 @@ impl Answers for Stage {
     // the site was reached by events, the clocks within their error: so all that is promised of a run is so of it
     ghost keeps = { λ s. Reached s.rehearsal.site };
 
+    // nothing of it is on a disk
+    ghost settled = { λ s. Unit {0} };
+
     fn answer(&mut self, line: &[u8], out: &mut Output) -> Result<()> {
         let before = self.rehearsal.site.sent();
         let step = parse(line);
@@ -55,6 +58,10 @@ impl Answers for Stage {
         }
         self.sent_since(before, out)?;
         Ok(say(said, out)?)
+    }
+
+    fn settle(&mut self) -> Result<()> {
+        Ok(())
     }
 }
 

@@ -108,6 +108,9 @@ impl<S: Store> Answers for Session<S> {
     // what a tablet keeps from one line to the next is said by its own contracts
     ghost keeps = { λ s. Unit {0} };
 
+    // each of its records is synced before the line is answered
+    ghost settled = { λ s. Unit {0} };
+
     // What the tablet sends, shows, is told and answers is printed.
     fn answer(&mut self, line: &[u8], out: &mut Output) -> Result<()> {
         let mut buffer = [0; ROOM];
@@ -118,5 +121,8 @@ impl<S: Store> Answers for Session<S> {
             return Ok(refused(out, refusal)?);
         }
         self.act(said, &buffer, out)
+    }
+    fn settle(&mut self) -> Result<()> {
+        Ok(())
     }
 }
