@@ -1,6 +1,6 @@
 -- What a rehearsal prints, behind what was printed before.
 -- Assumes nothing.
-use Rattle.std.specs.Prelude.{ℕ, ◌/◌, ◌%◌, List, [], ◌∷◌, ◌++◌, replicate, codes, decimal, Some, None, Option}
+use Rattle.std.specs.Prelude.{ℕ, ◌+◌, min, ◌/◌, ◌%◌, List, [], ◌∷◌, ◌++◌, replicate, codes, decimal, Some, None, Option}
 use Rattle.lines.specs.Outputs.{trimmed_text}
 use Rattle.message.specs.Format.{Msg, Ask, Loan, Write, In, Void, Recall, Back, said}
 use Rattle.message.specs.Kinds.{kind_byte}
@@ -50,6 +50,15 @@ message_behind w m = body_behind w m ++ (10 ∷ [])
 -- what a writer is told, which carries no part
 abbrev pub told_behind : List ℕ → Message → List ℕ
 told_behind w m = message_behind (w ++ codes "told ") (said (replicate 1024 0) m)
+
+-- the number of a message in the script, which counts from 1
+abbrev pub number_of : (index : ℕ) → ℕ
+number_of i = min 18446744073709551615 (i + 1)
+
+-- a message that is sent, by its number; nothing of bytes that are none
+abbrev pub sent_behind : List ℕ → (index : ℕ) → Option Msg → List ℕ
+sent_behind w i None = w
+sent_behind w i (Some m) = message_behind (((w ++ codes "sent ") ++ decimal (number_of i)) ++ codes " ") m
 
 -- what the keeper has
 abbrev pub kept_behind : List ℕ → (kept : List ℕ) → List ℕ

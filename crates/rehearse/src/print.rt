@@ -1,8 +1,9 @@
-ghost use Rattle.std.specs.Prelude.{◌≡◌, OnOk};
+ghost use Rattle.std.specs.Prelude.{◌≡◌, Some, OnOk};
 ghost use Rattle.lines.specs.Outputs.{printed};
 ghost use Rattle.message.specs.Format.{said};
 ghost use Rattle.message.specs.Kinds.{kind_byte};
-ghost use Rattle.rehearse.specs.Prints.{word_behind, also_behind, about_behind, head_behind, bytes_behind, body_behind, message_behind, told_behind, kept_behind, shown_behind, not_shown_behind};
+ghost use Rattle.message.specs.Reading.{read};
+ghost use Rattle.rehearse.specs.Prints.{word_behind, also_behind, about_behind, head_behind, bytes_behind, body_behind, message_behind, sent_behind, told_behind, kept_behind, shown_behind, not_shown_behind};
 
 use lines::output::Output;
 use message::decode::{carried_part, decode};
@@ -96,17 +97,31 @@ fn message(out: &mut Output, message: Message, part: &[u8; 1024]) -> Result<(), 
     out.end_line()
 }
 
-/// Prints a message that is sent, counted from 0, by its number in the script, which counts from 1.
-pub fn sent(out: &mut Output, index: usize, bytes: &[u8]) -> Result<(), AllocError> {
-    let Ok(sent) = decode(bytes) else {
-        return Ok(());
-    };
+// Prints a message that is sent, with the part that it carries.
+fn numbered(
+    out: &mut Output,
+    index: usize,
+    sent: Message,
+    part: &[u8; 1024],
+) -> Result<(), AllocError>
+    ensures { OnOk result (printed out.new ≡ sent_behind (printed out.old) index (Some (said part.now sent))) }
+{
     out.text("sent ")?;
     out.number((index as u64).saturating_add(1))?;
     out.text(" ")?;
+    message(out, sent, part)
+}
+
+/// Prints a message that is sent, counted from 0, by its number in the script, which counts from 1.
+pub fn sent(out: &mut Output, index: usize, bytes: &[u8]) -> Result<(), AllocError>
+    ensures { OnOk result (printed out.new ≡ sent_behind (printed out.old) index (read bytes.now)) }
+{
+    let Ok(sent) = decode(bytes) else {
+        return Ok(());
+    };
     match carried_part(bytes) {
-        Some(part) => message(out, sent, part),
-        None => message(out, sent, &[0; 1024]),
+        Some(part) => numbered(out, index, sent, part),
+        None => numbered(out, index, sent, &[0; 1024]),
     }
 }
 
