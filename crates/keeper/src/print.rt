@@ -15,14 +15,20 @@ use startup::print::{answer, sent};
 use std::alloc::AllocError;
 
 // Prints a recall to each borrower that is marked, by rising number.
+// A recall carries no part: the part's bytes stand there since they are at hand.
 // What is printed stays beside what it is printed to, here and below: no value holds both.
-fn recalls(out: &mut Output, place: Place, by: &[bool; 32]) -> Result<(), AllocError>
+fn recalls(
+    out: &mut Output,
+    keeper: &Keeper,
+    place: Place,
+    by: &[bool; 32],
+) -> Result<(), AllocError>
     ensures { OnOk result (printed out.new ≡ printed out.old ++ sends_text (recalls place.at 0 by.now)) }
 {
     for id in 0u8..32 {
         if by[usize::from(id)] {
             let who = Who { id };
-            sent(out, Message::Recall { who, place }, &[0; 1024])?;
+            sent(out, Message::Recall { who, place }, keeper.part(place))?;
         }
     }
     Ok(())
@@ -35,7 +41,7 @@ fn sends(out: &mut Output, keeper: &Keeper, sends: Sends) -> Result<(), AllocErr
     match sends {
         Sends::Nothing => Ok(()),
         Sends::One(message) => sent(out, message, keeper.part(message.place())),
-        Sends::Recalls { place, by } => recalls(out, place, &by),
+        Sends::Recalls { place, by } => recalls(out, keeper, place, &by),
     }
 }
 

@@ -6,10 +6,7 @@ use lender::keeper::Keeper;
 use lines::output::Output;
 use message::refusal::Refusal;
 use startup::print::refused;
-use startup::serve::Answers;
-
-// One byte more than the longest message has, so that no longer one is taken for a message.
-const ROOM: usize = 1034;
+use startup::serve::{Answers, ROOM};
 
 /// A keeper with its journal, whether it is up, and what its clock read last: a reading counts also where it can't come up.
 #[derive(Drop)]
@@ -86,15 +83,14 @@ impl<S: Store> Answers for Session<S> {
     ghost settled = { λ s. (S.disk s.store).synced ≡ (S.disk s.store).appended };
 
     // What the keeper sends and answers is printed.
-    fn answer(&mut self, line: &[u8], out: &mut Output) -> Result<()> {
-        let mut buffer = [0; ROOM];
-        let Some(heard) = parse(line, &mut buffer) else {
+    fn answer(&mut self, line: &[u8], buffer: &mut [u8; ROOM], out: &mut Output) -> Result<()> {
+        let Some(heard) = parse(line, buffer) else {
             return Ok(refused(out, Refusal::Malformed)?);
         };
         if let Err(refusal) = self.read_clock(heard.clock) {
             return Ok(refused(out, refusal)?);
         }
-        self.act(heard, &buffer, out)
+        self.act(heard, buffer, out)
     }
 
     fn settle(&mut self) -> Result<()> {

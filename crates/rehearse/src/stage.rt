@@ -13,7 +13,7 @@ use message::refusal::Refusal;
 use script::step::parse;
 use site::seen::{Answer, Seen, Shown};
 use startup::print::{answer, refused};
-use startup::serve::Answers;
+use startup::serve::{Answers, ROOM};
 use std::alloc::{AllocError, Global};
 
 /// A rehearsal whose lines are read and answered.
@@ -49,7 +49,7 @@ impl Answers for Stage {
     // nothing of it is on a disk
     ghost settled = { λ s. Unit {0} };
 
-    fn answer(&mut self, line: &[u8], out: &mut Output) -> Result<()> {
+    fn answer(&mut self, line: &[u8], _buffer: &mut [u8; ROOM], out: &mut Output) -> Result<()> {
         let before = self.rehearsal.site.sent();
         let step = parse(line);
         let said = self.rehearsal.play(step)?;

@@ -13,6 +13,9 @@ use std::process::ExitCode;
 // So many bytes of answers leave together at most, and one line's more.
 const BATCH: usize = 65536;
 
+/// One byte more than the longest message has, so that no longer one is taken for a message.
+pub const ROOM: usize = 1034;
+
 /// What answers the lines of a program's input.
 pub trait Answers {
     // what it keeps from one line to the next, if it had it before the first
@@ -21,8 +24,9 @@ pub trait Answers {
     // all that its answers so far depend on is on the disk: they may leave
     ghost settled: { Self → Type 0 };
 
-    /// A line comes: what it says is done, and the answer is printed. It doesn't leave yet.
-    fn answer(&mut self, line: &[u8], out: &mut Output) -> Result<()>
+    /// A line comes: what it says is done, and the answer is printed. It doesn't leave yet. Bytes that the line says may be put into
+    /// the buffer, which each line uses again.
+    fn answer(&mut self, line: &[u8], buffer: &mut [u8; ROOM], out: &mut Output) -> Result<()>
         ensures { OnOk result (keeps self.old → keeps self.new) };
 
     /// Brings to the disk what the answers so far depend on.
@@ -32,12 +36,18 @@ pub trait Answers {
 }
 
 // Hands on a line, or refuses one that the end of the input cut short. Nothing is printed of a line that fails.
-fn hand_on<A: Answers>(to: &mut A, line: Line, text: &[u8], out: &mut Output) -> Result<()>
+fn hand_on<A: Answers>(
+    to: &mut A,
+    line: Line,
+    text: &[u8],
+    buffer: &mut [u8; ROOM],
+    out: &mut Output,
+) -> Result<()>
     ensures { OnOk result (A.keeps to.old → A.keeps to.new) }
 {
     let before = out.len();
     let done = match line {
-        Line::Whole => to.answer(text, out),
+        Line::Whole => to.answer(text, buffer, out),
         Line::Cut => refused(out, Refusal::Malformed).map_err(anyhow::Error::from),
     };
     if done.is_err() {
@@ -65,12 +75,13 @@ pub fn serve<A: Answers>(rt: &HostRuntime, to: &mut A) -> Result<()>
     let mut stdout = rt.stdout();
     let mut input = Input::new(rt.alloc())?;
     let mut out = Output::new(rt.alloc());
+    let mut buffer = [0; ROOM];
     // A count stays: a loop without one would ask for a handle that may wait. 2^64 lines are more than any input has.
     for _ in 0..u64::MAX {
         let Some(line) = input.next_line(&mut stdin)? else {
             break;
         };
-        let done = hand_on(to, line, input.line(), &mut out);
+        let done = hand_on(to, line, input.line(), &mut buffer, &mut out);
         if done.is_err() || !input.has_line() || out.len() >= BATCH {
             to.settle()?;
             leave(to, &mut out, &mut stdout)?;
