@@ -1,0 +1,8 @@
+// The library that C and plain Rust programs link: keepers and tablets behind handles, and every call on numbers and bytes.
+// The host keeps the journal: it appends and syncs the record of a call before anything of the call leaves.
+#![tactic(auto)]
+
+mod handle;
+mod loose;
+mod machine;
+mod slot;
