@@ -1,2 +1,3 @@
+pub mod Recalls
 pub mod Slots
 pub mod Values

@@ -5,4 +5,5 @@
 mod handle;
 mod loose;
 mod machine;
+mod put;
 mod slot;
