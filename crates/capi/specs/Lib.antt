@@ -1,3 +1,5 @@
 pub mod Owned
 pub mod Handles
 pub mod Buffers
+pub mod Numbers
+pub mod Answers

@@ -3,7 +3,9 @@
 #![tactic(auto)]
 
 mod handle;
+mod keeper;
 mod loose;
 mod machine;
 mod put;
+mod reply;
 mod slot;
