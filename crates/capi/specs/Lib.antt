@@ -3,3 +3,4 @@ pub mod Handles
 pub mod Buffers
 pub mod Numbers
 pub mod Answers
+pub mod Keepers

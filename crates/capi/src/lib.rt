@@ -6,6 +6,7 @@ mod handle;
 mod keeper;
 mod loose;
 mod machine;
+mod misuse;
 mod put;
 mod reply;
 mod slot;

@@ -1,6 +1,8 @@
 use borrower::tablet::Tablet;
 use lender::keeper::Keeper;
 
+pub mod keeper;
+
 /// A keeper, which is up or is yet to come up.
 #[derive(Drop)]
 pub struct Office {
