@@ -4,3 +4,4 @@ pub mod Buffers
 pub mod Numbers
 pub mod Answers
 pub mod Keepers
+pub mod Opening

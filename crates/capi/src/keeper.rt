@@ -5,12 +5,16 @@ ghost use Rattle.lender.specs.Book.{keeper_book, keeper_parts};
 ghost use Rattle.lender.specs.Replies.{sent_by, recorded_by, heard_effect, heard_book, heard_parts};
 ghost use Rattle.capi.specs.Buffers.{Wrote, Row};
 ghost use Rattle.capi.specs.Answers.{KeeperSays};
+ghost use Rattle.capi.specs.Opening.{KeeperFrom};
 
+use crate::misuse::Misuse;
 use crate::put::{put_message, put_recalls, put_record};
 use crate::reply::{Answer, Reply, number_of};
-use journal::record::Record;
+use journal::record::{Owner, Record};
+use journal::replay::replay;
 use lender::answer::Sends;
 use lender::keeper::Keeper;
+use std::alloc::Global;
 
 // How many messages were written, and how many bytes each has.
 #[derive(Clone, Copy, Debug, PartialEq, Eq)]
@@ -46,6 +50,15 @@ fn put_filed(keeper: &Keeper, record: Option<Record>, out: &mut [u8]) -> usize
         None => 0,
         Some(record) => put_record(Some(record), keeper.part_of(record), out),
     }
+}
+
+/// A keeper from the bytes of its journal, and how many of them are whole records. It is not up before it has come up.
+pub fn opened(heap: Global, long: u64, journal: &[u8]) -> Result<(Keeper, usize), Misuse>
+    ensures { KeeperFrom journal.now long result }
+{
+    let mut keeper = Keeper::new(heap, long)?;
+    let size = replay(Owner::Keeper, journal, &mut keeper)?;
+    Ok((keeper, size))
 }
 
 /// A message comes to a keeper.

@@ -1,5 +1,9 @@
 ghost use Rattle.std.specs.Prelude.{◌≡◌};
 ghost use Rattle.capi.specs.Numbers.{misuse_number};
+ghost use Rattle.capi.specs.declared.misuse.Misuse.TheVariants.{NoMemory, NoJournal};
+
+use message::form::Malformed;
+use std::alloc::AllocError;
 
 /// Why a call of the host was not made. Nothing has changed then: no handle, no buffer, and not the reply.
 #[derive(Clone, Copy, Debug, PartialEq, Eq)]
@@ -20,5 +24,22 @@ impl Misuse {
         ensures { result ≡ misuse_number self }
     {
         self as u8
+    }
+}
+
+impl From<AllocError> for Misuse {
+    ghost from_gives = { λ _ e. e ≡ NoMemory };
+
+    fn from(_: AllocError) -> Self {
+        Self::NoMemory
+    }
+}
+
+// Only a journal is read whole.
+impl From<Malformed> for Misuse {
+    ghost from_gives = { λ _ e. e ≡ NoJournal };
+
+    fn from(_: Malformed) -> Self {
+        Self::NoJournal
     }
 }
