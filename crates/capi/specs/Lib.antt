@@ -5,3 +5,4 @@ pub mod Numbers
 pub mod Answers
 pub mod Keepers
 pub mod Opening
+pub mod Hearing

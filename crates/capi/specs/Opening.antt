@@ -1,13 +1,23 @@
 -- What opening makes of the bytes of a journal, and what the host has of it.
 -- Assumes nothing.
-use Rattle.std.specs.Prelude.{◌≡◌, ℕ, List, take, Ok, Err, Result}
+use Rattle.std.specs.Prelude.{◌≡◌, ℕ, false, List, take, Some, None, Ok, Err, Option, Result}
+use Rattle.journal.specs.declared.record.Owner.{Owner}
 use Rattle.journal.specs.declared.record.Owner.TheVariants as owner
 use Rattle.journal.specs.Reading.{Cut, Refused}
 use Rattle.lender.specs.declared.keeper.Keeper.{Keeper}
 use Rattle.lender.specs.Book.{keeper_book}
 use Rattle.lender.specs.OnDisk.{OnDisk}
+use Rattle.capi.specs.declared.machine.Machine.{Machine}
+use Rattle.capi.specs.declared.machine.Machine.TheVariants as holds
 use Rattle.capi.specs.declared.misuse.Misuse.{Misuse}
 use Rattle.capi.specs.declared.misuse.Misuse.TheVariants as why
+
+-- why nothing was opened: there is no memory, or these bytes are to be refused
+abbrev pub NotOpened : Owner → (journal : List ℕ) → Misuse → Type 0
+NotOpened o bs why.Handle = ⊥
+NotOpened o bs why.Argument = ⊥
+NotOpened o bs why.NoMemory = Unit {0}
+NotOpened o bs why.NoJournal = Refused o bs
 
 -- a keeper, whose memory is what the whole records make, and how many bytes these have: there the host cuts the file
 pub record KeeperOf (journal : List ℕ) (l : ℕ) (k : Keeper) (n : ℕ) : Type 0 where
@@ -18,7 +28,12 @@ pub record KeeperOf (journal : List ℕ) (l : ℕ) (k : Keeper) (n : ℕ) : Type
 -- of bytes that are a journal it gives a keeper; other bytes are refused
 abbrev pub KeeperFrom : (journal : List ℕ) (long : ℕ) → Result (Keeper × ℕ) Misuse → Type 0
 KeeperFrom bs l (Ok (k, n)) = KeeperOf bs l k n
-KeeperFrom bs l (Err why.Handle) = ⊥
-KeeperFrom bs l (Err why.Argument) = ⊥
-KeeperFrom bs l (Err why.NoMemory) = Unit {0}
-KeeperFrom bs l (Err why.NoJournal) = Refused owner.Keeper bs
+KeeperFrom bs l (Err e) = NotOpened owner.Keeper bs e
+
+-- an empty handle holds it from then on, and it is not up yet; of a call that was not made the handle is as it was
+abbrev pub KeeperOpens : (was is : Option Machine) (long : ℕ) (journal : List ℕ) → Result ℕ Misuse → Type 0
+KeeperOpens (Some m) is l bs r = (r ≡ Err why.Handle) × (is ≡ Some m)
+KeeperOpens None None l bs (Ok n) = ⊥
+KeeperOpens None (Some (holds.Keeper x)) l bs (Ok n) = KeeperOf bs l x.keeper n × (x.«is_up» ≡ false)
+KeeperOpens None (Some (holds.Tablet t)) l bs (Ok n) = ⊥
+KeeperOpens None is l bs (Err e) = (is ≡ None) × NotOpened owner.Keeper bs e

@@ -3,12 +3,13 @@ ghost use Rattle.std.specs.Prelude.{◌≡◌, is_some};
 use crate::slot::Slot;
 
 pub mod calls;
+pub mod keeper;
 
 /// What C has of a keeper or a tablet. All zero bytes, it holds nothing.
 #[repr(C)]
 #[derive(Drop)]
 pub struct Handle {
-    slot: Slot,
-    is_open: bool,
+    pub slot: Slot,
+    pub is_open: bool,
     ghost told: { is_some slot.value ≡ «is_open» },
 }
