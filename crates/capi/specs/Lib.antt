@@ -6,3 +6,5 @@ pub mod Answers
 pub mod Keepers
 pub mod Opening
 pub mod Hearing
+pub mod Told
+pub mod Exports

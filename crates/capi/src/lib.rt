@@ -2,6 +2,7 @@
 // The host keeps the journal: it appends and syncs the record of a call before anything of the call leaves.
 #![tactic(auto)]
 
+mod exports;
 mod handle;
 mod keeper;
 mod loose;
@@ -10,3 +11,4 @@ mod misuse;
 mod put;
 mod reply;
 mod slot;
+mod tell;
