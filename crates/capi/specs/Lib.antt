@@ -8,3 +8,4 @@ pub mod Opening
 pub mod Hearing
 pub mod Told
 pub mod Exports
+pub mod Words

@@ -9,7 +9,7 @@ ghost use Rattle.capi.specs.Opening.{KeeperFrom};
 
 use crate::misuse::Misuse;
 use crate::put::{put_message, put_recalls, put_record};
-use crate::reply::{Answer, Reply, number_of};
+use crate::reply::{Answer, Reply, Word, number_of};
 use journal::record::{Owner, Record};
 use journal::replay::replay;
 use lender::answer::Sends;
@@ -84,10 +84,7 @@ pub fn receive(
             record_size,
             message_count: count,
             message_size: size,
-            told: 0,
-            file: 0,
-            part: 0,
-            number: 0,
+            told: Word::default(),
         },
     }
 }
