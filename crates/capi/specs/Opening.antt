@@ -7,6 +7,9 @@ use Rattle.journal.specs.Reading.{Cut, Refused}
 use Rattle.lender.specs.declared.keeper.Keeper.{Keeper}
 use Rattle.lender.specs.Book.{keeper_book}
 use Rattle.lender.specs.OnDisk.{OnDisk}
+use Rattle.part.specs.declared.who.Who.{Who}
+use Rattle.borrower.specs.declared.tablet.Tablet.{Tablet}
+use Rattle.borrower.specs.Opened.{CameUp}
 use Rattle.capi.specs.declared.machine.Machine.{Machine}
 use Rattle.capi.specs.declared.machine.Machine.TheVariants as holds
 use Rattle.capi.specs.declared.misuse.Misuse.{Misuse}
@@ -37,3 +40,13 @@ KeeperOpens None None l bs (Ok n) = ⊥
 KeeperOpens None (Some (holds.Keeper x)) l bs (Ok n) = KeeperOf bs l x.keeper n × (x.«is_up» ≡ false)
 KeeperOpens None (Some (holds.Tablet t)) l bs (Ok n) = ⊥
 KeeperOpens None is l bs (Err e) = (is ≡ None) × NotOpened owner.Keeper bs e
+
+-- a tablet that came up from the whole records, and how many bytes these have
+pub record TabletOf (journal : List ℕ) (w : Who) (s : ℕ) (t : Tablet) (n : ℕ) : Type 0 where
+  pub cut : Cut owner.Borrower journal n
+  pub came : CameUp w s journal t
+
+-- of bytes that are a journal it gives a tablet; other bytes are refused
+abbrev pub TabletFrom : (journal : List ℕ) → Who → (short : ℕ) → Result (Tablet × ℕ) Misuse → Type 0
+TabletFrom bs w s (Ok (t, n)) = TabletOf bs w s t n
+TabletFrom bs w s (Err e) = NotOpened owner.Borrower bs e

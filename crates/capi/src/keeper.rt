@@ -8,7 +8,7 @@ ghost use Rattle.capi.specs.Answers.{KeeperSays};
 ghost use Rattle.capi.specs.Opening.{KeeperFrom};
 
 use crate::misuse::Misuse;
-use crate::put::{put_message, put_recalls, put_record};
+use crate::put::{Sent, put_message, put_recalls, put_record};
 use crate::reply::{Answer, Reply, Word, number_of};
 use journal::record::{Owner, Record};
 use journal::replay::replay;
@@ -16,24 +16,14 @@ use lender::answer::Sends;
 use lender::keeper::Keeper;
 use std::alloc::Global;
 
-// How many messages were written, and how many bytes each has.
-#[derive(Clone, Copy, Debug, PartialEq, Eq)]
-struct Sent {
-    count: usize,
-    size: usize,
-}
-
 // Writes what the keeper sends.
 fn put_sends(keeper: &Keeper, sends: Sends, out: &mut [u8]) -> Sent
     requires { 1033 ≤ length out.old }
     ensures { Row (sent_by (keeper_parts keeper.now) sends) result.count result.size out.old out.new }
 {
     match sends {
-        Sends::Nothing => Sent { count: 0, size: 0 },
-        Sends::One(message) => Sent {
-            count: 1,
-            size: put_message(Some(message), keeper.part(message.place()), out),
-        },
+        Sends::Nothing => Sent::default(),
+        Sends::One(message) => put_message(Some(message), keeper.part(message.place()), out),
         Sends::Recalls { place, by } => Sent {
             count: put_recalls(place, &by, out),
             size: 4,

@@ -11,4 +11,5 @@ mod misuse;
 mod put;
 mod reply;
 mod slot;
+mod tablet;
 mod tell;

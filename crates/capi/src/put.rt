@@ -3,7 +3,7 @@ ghost use Rattle.journal.specs.Logs.{logged};
 ghost use Rattle.journal.specs.Records.{bytes_of};
 ghost use Rattle.borrower.specs.Outcomes.{sent_by};
 ghost use Rattle.lender.specs.Rules.{recalls};
-ghost use Rattle.capi.specs.Buffers.{Wrote, messages_bytes, Row};
+ghost use Rattle.capi.specs.Buffers.{Wrote, Row};
 
 use journal::record::Record;
 use message::form::Message;
@@ -21,14 +21,24 @@ pub fn put_record(record: Option<Record>, part: &[u8; 1024], out: &mut [u8]) -> 
     }
 }
 
-/// Writes the message, if there is one, with the bytes of `part` where it carries a part's: how many bytes these are.
-pub fn put_message(message: Option<Message>, part: &[u8; 1024], out: &mut [u8]) -> usize
+/// How many messages were written, and how many bytes each has.
+#[derive(Clone, Copy, Debug, Default, PartialEq, Eq)]
+pub struct Sent {
+    pub count: usize,
+    pub size: usize,
+}
+
+/// Writes the message, if there is one, with the bytes of `part` where it carries a part's.
+pub fn put_message(message: Option<Message>, part: &[u8; 1024], out: &mut [u8]) -> Sent
     requires { 1033 ≤ length out.old }
-    ensures { Wrote (messages_bytes (sent_by part.now message)) result out.old out.new }
+    ensures { Row (sent_by part.now message) result.count result.size out.old out.new }
 {
     match message {
-        Some(message) => message::encode::encode(&message, part, out).unwrap(),
-        None => 0,
+        Some(message) => {
+            let size = message::encode::encode(&message, part, out).unwrap();
+            Sent { count: 1, size }
+        }
+        None => Sent::default(),
     }
 }
 
