@@ -1,8 +1,10 @@
-ghost use Rattle.std.specs.Prelude.{◌≡◌, ◌≤◌, length};
+ghost use Rattle.std.specs.Prelude.{◌≡◌, ◌≤◌, [], length};
 ghost use Rattle.message.specs.Reading.{read};
-ghost use Rattle.borrower.specs.Tablets.{part_at, filed_at};
+ghost use Rattle.borrower.specs.declared.outcome.Call.TheVariants.{Show};
+ghost use Rattle.borrower.specs.Tablets.{part_at, filed_at, copy_at};
 ghost use Rattle.borrower.specs.Outcomes.{effect, heard_effect, Heard, call_effect, call_part, Stepped};
 ghost use Rattle.capi.specs.Answers.{TabletSays};
+ghost use Rattle.capi.specs.Buffers.{copied};
 ghost use Rattle.capi.specs.Opening.{TabletFrom};
 
 use crate::misuse::Misuse;
@@ -12,6 +14,7 @@ use borrower::outcome::{Call, Outcome};
 use borrower::tablet::Tablet;
 use journal::record::Owner;
 use journal::replay::replay;
+use message::refusal::Refusal;
 use part::place::Place;
 use part::who::Who;
 use std::alloc::Global;
@@ -65,4 +68,56 @@ pub fn call(
 {
     let outcome = tablet.perform(clock, place, call);
     answer_of(outcome, bytes, filed, sent)
+}
+
+/// A message comes to a tablet.
+pub fn receive(
+    tablet: &mut Tablet,
+    message: &[u8],
+    filed: &mut [u8],
+    sent: &mut [u8],
+) -> Answer
+    requires { (1032 ≤ length filed.old) × (1033 ≤ length sent.old) }
+    ensures says { TabletSays (heard_effect tablet.old.who.id (read message.now) (part_at tablet.old) (filed_at tablet.old)) result filed.old filed.new sent.old sent.new }
+    ensures left { Heard tablet.old tablet.new (read message.now) }
+{
+    let outcome = tablet.receive(message);
+    answer_of(outcome, &[0; 1024], filed, sent)
+}
+
+// Writes the copy of a part, where it may be shown.
+fn put_copy(tablet: &Tablet, place: Place, answer: Result<(), Refusal>, copy: &mut [u8])
+    requires { 1024 ≤ length copy.old }
+    ensures { copy.new ≡ copied answer (copy_at tablet.now place.at) copy.old }
+{
+    if answer.is_ok() {
+        copy[0..1024].copy_from_slice(tablet.copy(place));
+    }
+}
+
+/// A call to show: the copy's bytes, where they may be shown. Nothing is sent.
+pub fn show(
+    tablet: &mut Tablet,
+    clock: u64,
+    place: Place,
+    filed: &mut [u8],
+    copy: &mut [u8],
+) -> Answer
+    requires { (1032 ≤ length filed.old) × (1024 ≤ length copy.old) }
+    ensures says { TabletSays (call_effect tablet.old.who.id place.at [] clock tablet.old.short Show (part_at tablet.old place.at) (filed_at tablet.old place.at)) result filed.old filed.new [] [] }
+    ensures left { Stepped tablet.old tablet.new place.at (call_part clock tablet.old.short Show (part_at tablet.old place.at)) }
+    ensures copy { copy.new ≡ copied (call_effect tablet.old.who.id place.at [] clock tablet.old.short Show (part_at tablet.old place.at) (filed_at tablet.old place.at)).answer (copy_at tablet.new place.at) copy.old }
+{
+    let outcome = tablet.show(clock, place);
+    let record_size = put_record(outcome.record, &[0; 1024], filed);
+    put_copy(tablet, place, outcome.answer, copy);
+    Answer {
+        number: number_of(outcome.answer),
+        reply: Reply {
+            record_size,
+            message_count: 0,
+            message_size: 0,
+            told: Word::default(),
+        },
+    }
 }
