@@ -9,3 +9,4 @@ pub mod Hearing
 pub mod Told
 pub mod Exports
 pub mod Words
+pub mod Tablets

@@ -2,6 +2,7 @@ use borrower::tablet::Tablet;
 use lender::keeper::Keeper;
 
 pub mod keeper;
+pub mod tablet;
 
 /// A keeper, which is up or is yet to come up.
 #[derive(Drop)]
