@@ -2,3 +2,4 @@ pub mod Plain
 pub mod Recalls
 pub mod Slots
 pub mod Values
+pub mod Wholes

@@ -10,3 +10,4 @@ pub mod Told
 pub mod Exports
 pub mod Words
 pub mod Tablets
+pub mod Asked

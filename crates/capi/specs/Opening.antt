@@ -1,13 +1,12 @@
 -- What opening makes of the bytes of a journal, and what the host has of it.
 -- Assumes nothing.
-use Rattle.std.specs.Prelude.{◌≡◌, ℕ, false, List, take, Some, None, Ok, Err, Option, Result}
+use Rattle.std.specs.Prelude.{◌≡◌, ℕ, ◌≤◌, false, List, take, Some, None, Ok, Err, Option, Result}
 use Rattle.journal.specs.declared.record.Owner.{Owner}
 use Rattle.journal.specs.declared.record.Owner.TheVariants as owner
 use Rattle.journal.specs.Reading.{Cut, Refused}
 use Rattle.lender.specs.declared.keeper.Keeper.{Keeper}
 use Rattle.lender.specs.Book.{keeper_book}
 use Rattle.lender.specs.OnDisk.{OnDisk}
-use Rattle.part.specs.declared.who.Who.{Who}
 use Rattle.borrower.specs.declared.tablet.Tablet.{Tablet}
 use Rattle.borrower.specs.Opened.{CameUp}
 use Rattle.capi.specs.declared.machine.Machine.{Machine}
@@ -42,11 +41,21 @@ KeeperOpens None (Some (holds.Tablet t)) l bs (Ok n) = ⊥
 KeeperOpens None is l bs (Err e) = (is ≡ None) × NotOpened owner.Keeper bs e
 
 -- a tablet that came up from the whole records, and how many bytes these have
-pub record TabletOf (journal : List ℕ) (w : Who) (s : ℕ) (t : Tablet) (n : ℕ) : Type 0 where
+pub record TabletOf (journal : List ℕ) (w s : ℕ) (t : Tablet) (n : ℕ) : Type 0 where
   pub cut : Cut owner.Borrower journal n
-  pub came : CameUp w s journal t
+  pub who : t.who.id ≡ w
+  pub came : CameUp t.who s journal t
 
 -- of bytes that are a journal it gives a tablet; other bytes are refused
-abbrev pub TabletFrom : (journal : List ℕ) → Who → (short : ℕ) → Result (Tablet × ℕ) Misuse → Type 0
+abbrev pub TabletFrom : (journal : List ℕ) → (who short : ℕ) → Result (Tablet × ℕ) Misuse → Type 0
 TabletFrom bs w s (Ok (t, n)) = TabletOf bs w s t n
 TabletFrom bs w s (Err e) = NotOpened owner.Borrower bs e
+
+-- an empty handle holds it from then on, for a borrower that there is
+abbrev pub TabletOpens : (was is : Option Machine) (who short : ℕ) (journal : List ℕ) → Result ℕ Misuse → Type 0
+TabletOpens (Some m) is w s bs r = (r ≡ Err why.Handle) × (is ≡ Some m)
+TabletOpens None None w s bs (Ok n) = ⊥
+TabletOpens None (Some (holds.Tablet t)) w s bs (Ok n) = TabletOf bs w s t n
+TabletOpens None (Some (holds.Keeper x)) w s bs (Ok n) = ⊥
+TabletOpens None is w s bs (Err why.Argument) = (is ≡ None) × (32 ≤ w)
+TabletOpens None is w s bs (Err e) = (is ≡ None) × NotOpened owner.Borrower bs e

@@ -1,7 +1,6 @@
 -- What the calls for a tablet do to what a handle holds, and what the host has of them.
 -- Assumes nothing.
-use Rattle.std.specs.Prelude.{◌≡◌, ℕ, ◌+◌, ◌*◌, ◌<◌, cond, List, [], length, replicate, Some, None, Ok, Err, Option, Result, ◌==◌, nat_lt}
-use Rattle.message.specs.declared.kind.Kind.TheVariants.{Reading, Writing}
+use Rattle.std.specs.Prelude.{◌≡◌, ℕ, List, [], Some, None, Ok, Err, Option, Result}
 use Rattle.message.specs.Reading.{read}
 use Rattle.borrower.specs.declared.outcome.Call.{Call}
 use Rattle.borrower.specs.declared.outcome.Call.TheVariants as call

@@ -4,6 +4,7 @@ use crate::slot::Slot;
 
 pub mod calls;
 pub mod keeper;
+pub mod tablet;
 
 /// What C has of a keeper or a tablet. All zero bytes, it holds nothing.
 #[repr(C)]

@@ -13,3 +13,4 @@ mod reply;
 mod slot;
 mod tablet;
 mod tell;
+mod what;

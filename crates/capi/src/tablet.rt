@@ -1,4 +1,4 @@
-ghost use Rattle.std.specs.Prelude.{◌≡◌, ◌≤◌, [], length};
+ghost use Rattle.std.specs.Prelude.{◌≡◌, ◌≢◌, ◌≤◌, [], length, MatchOption};
 ghost use Rattle.message.specs.Reading.{read};
 ghost use Rattle.borrower.specs.declared.outcome.Call.TheVariants.{Show};
 ghost use Rattle.borrower.specs.Tablets.{part_at, filed_at, copy_at};
@@ -26,11 +26,21 @@ pub fn opened(
     short: u64,
     journal: &[u8],
 ) -> Result<(Tablet, usize), Misuse>
-    ensures { TabletFrom journal.now who short result }
+    ensures { TabletFrom journal.now who.id short result }
 {
     let mut tablet = Tablet::new(heap, who, short)?;
     let size = replay(Owner::Borrower, journal, &mut tablet)?;
     Ok((tablet, size))
+}
+
+/// The bytes of a part, where they are as many.
+pub fn whole_part(bytes: &[u8]) -> Option<&[u8; 1024]>
+    ensures { MatchOption result (length bytes.now ≢ 1024) (λ v. (v.now ≡ bytes.now) × (length bytes.now ≡ 1024)) }
+{
+    if bytes.len() != 1024 {
+        return None;
+    }
+    bytes.first_chunk()
 }
 
 // What the host has of an outcome, with these bytes of a write.
