@@ -13,6 +13,10 @@ use Rattle.capi.specs.Tablets.{Called, Shown, HeardBy, DidBehind}
 abbrev pub TooShort : (filed sent : List ℕ) → Type 0
 TooShort f s = (length f < 1032) ⊎ (length s < 1033)
 
+-- the same, where a copy is to be shown
+abbrev pub NoRoomToShow : (filed copy : List ℕ) → Type 0
+NoRoomToShow f c = (length f < 1032) ⊎ (length c < 1024)
+
 -- a handle that holds nothing goes on holding nothing
 abbrev pub KeeperRaises : (was is : Option Machine) (clock : ℕ) → Result ℕ Misuse → Type 0
 KeeperRaises None is c r = (r ≡ Err why.Handle) × (is ≡ None)
@@ -41,3 +45,8 @@ Calls was is c None v r fw fi sw si = (r ≡ Err why.Argument) × (is ≡ was) �
 -- a message to a tablet
 abbrev pub Hears : (was is : Option Machine) → (bytes : List ℕ) → Result Answer Misuse → (filed_was filed_is sent_was sent_is : List ℕ) → Type 0
 Hears was is bs r fw fi sw si = DidBehind was is (λ t u a. HeardBy t u bs a fw fi sw si) (TooShort fw sw) ((fi ≡ fw) × (si ≡ sw)) r
+
+-- a call to show the part that is named, if one is
+abbrev pub Shows : (was is : Option Machine) (clock : ℕ) → Option (ℕ × Call) → Result Answer Misuse → (filed_was filed_is copy_was copy_is : List ℕ) → Type 0
+Shows was is c (Some (q, k)) r fw fi cw ci = DidBehind was is (λ t u a. Shown t u c q a fw fi cw ci) (NoRoomToShow fw cw) ((fi ≡ fw) × (ci ≡ cw)) r
+Shows was is c None r fw fi cw ci = (r ≡ Err why.Argument) × (is ≡ was) × (fi ≡ fw) × (ci ≡ cw)

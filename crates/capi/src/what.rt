@@ -1,7 +1,6 @@
 ghost use Rattle.std.specs.Prelude.{◌≡◌};
 ghost use Rattle.std.specs.Option.{option_map};
-ghost use Rattle.borrower.specs.declared.outcome.Call.TheVariants.{Forget};
-ghost use Rattle.capi.specs.Asked.{plain, named, asked, written};
+ghost use Rattle.capi.specs.Asked.{plain, named, asked};
 
 use borrower::outcome::Call;
 use message::kind::Kind;
@@ -31,14 +30,4 @@ pub fn ask(file: u8, part: u8, kind: u8) -> Option<What>
         1 => naming(file, part, Call::Ask(Kind::Writing)),
         2..=255 => None,
     }
-}
-
-/// A write, of so many bytes.
-pub fn write(file: u8, part: u8, size: usize) -> Option<What>
-    ensures { option_map plain result ≡ written file part size }
-{
-    if size != 1024 {
-        return None;
-    }
-    naming(file, part, Call::Write)
 }

@@ -1,16 +1,17 @@
-ghost use Rattle.std.specs.Prelude.{◌≡◌};
+ghost use Rattle.std.specs.Prelude.{◌≡◌, length};
 ghost use Rattle.capi.specs.Handles.{held};
 ghost use Rattle.capi.specs.Opening.{TabletOpens};
 ghost use Rattle.std.specs.Option.{option_map};
-ghost use Rattle.capi.specs.Asked.{plain};
-ghost use Rattle.capi.specs.Hearing.{Calls, Hears};
+ghost use Rattle.capi.specs.Asked.{plain, written};
+ghost use Rattle.capi.specs.Hearing.{Calls, Shows, Hears};
 
 use crate::handle::Handle;
 use crate::machine::Machine;
 use crate::misuse::Misuse;
 use crate::reply::Answer;
-use crate::tablet::opened;
-use crate::what::What;
+use crate::tablet::{opened, whole_part};
+use crate::what::{What, naming};
+use borrower::outcome::Call;
 use part::who::Who;
 use std::alloc::Global;
 
@@ -74,6 +75,47 @@ impl Handle {
         }
         let mut machine = self.take(heap).ok_or(Misuse::Handle)?;
         let result = machine.tablet_receive(message, filed, sent);
+        self.put(machine);
+        result
+    }
+
+    /// A write of the tablet, by the part that is named and its bytes.
+    pub fn write(
+        &mut self,
+        heap: Global,
+        clock: u64,
+        file: u8,
+        part: u8,
+        bytes: &[u8],
+        filed: &mut [u8],
+        sent: &mut [u8],
+    ) -> Result<Answer, Misuse>
+        ensures { Calls (held self.old) (held self.new) clock (written file part (length bytes.now)) bytes.now result filed.old filed.new sent.old sent.new }
+    {
+        let Some(whole) = whole_part(bytes) else {
+            return Err(Misuse::Argument);
+        };
+        let what = naming(file, part, Call::Write);
+        self.call(heap, clock, what, whole, filed, sent)
+    }
+
+    /// A call of the tablet to show the part that is named, if one is.
+    pub fn show(
+        &mut self,
+        heap: Global,
+        clock: u64,
+        what: Option<What>,
+        filed: &mut [u8],
+        copy: &mut [u8],
+    ) -> Result<Answer, Misuse>
+        ensures { Shows (held self.old) (held self.new) clock (option_map plain what) result filed.old filed.new copy.old copy.new }
+    {
+        let place = what.ok_or(Misuse::Argument)?.place;
+        if filed.len() < 1032 || copy.len() < 1024 {
+            return Err(Misuse::Argument);
+        }
+        let mut machine = self.take(heap).ok_or(Misuse::Handle)?;
+        let result = machine.show(clock, place, filed, copy);
         self.put(machine);
         result
     }
