@@ -1,6 +1,6 @@
 -- What the calls do to what a handle holds, and when they are not made.
 -- Assumes nothing.
-use Rattle.std.specs.Prelude.{◌≡◌, ℕ, ◌<◌, ◌⊎◌, List, length, replicate, Some, None, Ok, Err, Option, Result}
+use Rattle.std.specs.Prelude.{◌≡◌, ℕ, ◌<◌, ◌⊎◌, List, length, replicate, Some, None, Err, Option, Result}
 use Rattle.borrower.specs.declared.outcome.Call.{Call}
 use Rattle.capi.specs.declared.machine.Machine.{Machine}
 use Rattle.capi.specs.declared.misuse.Misuse.{Misuse}

@@ -1,6 +1,8 @@
 -- The numbers that a host is told.
 -- Assumes nothing.
-use Rattle.std.specs.Prelude.{ℕ, Ok, Err, Result}
+use Rattle.std.specs.Prelude.{ℕ, Some, None, Ok, Err, Option, Result}
+use Rattle.clock.specs.declared.terms.Unfit.{Unfit}
+use Rattle.clock.specs.declared.terms.Unfit.TheVariants.{RateTooHigh, ShortTooShort, LongTooLong, TooClose}
 use Rattle.message.specs.declared.refusal.Refusal.{Refusal}
 use Rattle.message.specs.Refusals.{refusal_number}
 use Rattle.capi.specs.declared.misuse.Misuse.{Misuse}
@@ -17,3 +19,11 @@ misuse_number Handle = 10
 misuse_number Argument = 11
 misuse_number NoMemory = 12
 misuse_number NoJournal = 13
+
+-- of terms: 0 where they fit together, or of the first condition that fails
+abbrev pub fit_number : Option Unfit → ℕ
+fit_number None = 0
+fit_number (Some RateTooHigh) = 1
+fit_number (Some ShortTooShort) = 2
+fit_number (Some LongTooLong) = 3
+fit_number (Some TooClose) = 4

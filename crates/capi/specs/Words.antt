@@ -1,6 +1,6 @@
 -- What a writer is told of its write.
 -- Assumes nothing.
-use Rattle.std.specs.Prelude.{ℕ, ◌/◌, ◌%◌, List, [], ◌∷◌}
+use Rattle.std.specs.Prelude.{◌/◌, ◌%◌, List, [], ◌∷◌}
 use Rattle.message.specs.Format.{Msg, Ask, Loan, Write, In, Void, Recall, Back}
 use Rattle.capi.specs.declared.reply.Word.{Word}
 

@@ -20,12 +20,7 @@ use part::who::Who;
 use std::alloc::Global;
 
 /// A tablet from the bytes of its journal, and how many of them are whole records.
-pub fn opened(
-    heap: Global,
-    who: Who,
-    short: u64,
-    journal: &[u8],
-) -> Result<(Tablet, usize), Misuse>
+pub fn opened(heap: Global, who: Who, short: u64, journal: &[u8]) -> Result<(Tablet, usize), Misuse>
     ensures { TabletFrom journal.now who.id short result }
 {
     let mut tablet = Tablet::new(heap, who, short)?;
@@ -81,12 +76,7 @@ pub fn call(
 }
 
 /// A message comes to a tablet.
-pub fn receive(
-    tablet: &mut Tablet,
-    message: &[u8],
-    filed: &mut [u8],
-    sent: &mut [u8],
-) -> Answer
+pub fn receive(tablet: &mut Tablet, message: &[u8], filed: &mut [u8], sent: &mut [u8]) -> Answer
     requires { (1032 ≤ length filed.old) × (1033 ≤ length sent.old) }
     ensures says { TabletSays (heard_effect tablet.old.who.id (read message.now) (part_at tablet.old) (filed_at tablet.old)) result filed.old filed.new sent.old sent.new }
     ensures left { Heard tablet.old tablet.new (read message.now) }

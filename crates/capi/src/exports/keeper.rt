@@ -41,5 +41,8 @@ pub extern "C" fn zilunthar_keeper_receive(
 ) -> u8
     ensures { KeeperHeard (held keeper.old) (held keeper.new) clock message.now reply.old reply.new filed.old filed.new sent.old sent.new result }
 {
-    tell_answer(keeper.keeper_receive(heap, clock, message, filed, sent), reply)
+    tell_answer(
+        keeper.keeper_receive(heap, clock, message, filed, sent),
+        reply,
+    )
 }

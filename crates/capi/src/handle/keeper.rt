@@ -12,12 +12,7 @@ use std::alloc::Global;
 
 impl Handle {
     /// Holds a keeper from the bytes of its journal: how many of them are whole records.
-    pub fn keeper_open(
-        &mut self,
-        heap: Global,
-        long: u64,
-        journal: &[u8],
-    ) -> Result<usize, Misuse>
+    pub fn keeper_open(&mut self, heap: Global, long: u64, journal: &[u8]) -> Result<usize, Misuse>
         ensures { KeeperOpens (held self.old) (held self.new) long journal.now result }
     {
         if self.is_open {
