@@ -2,10 +2,11 @@ ghost use Rattle.std.specs.Prelude.{◌≡◌, ◌≢◌, ◌≤◌, [], length,
 ghost use Rattle.message.specs.Reading.{read};
 ghost use Rattle.borrower.specs.declared.outcome.Call.TheVariants.{Show};
 ghost use Rattle.borrower.specs.Tablets.{part_at, filed_at, copy_at};
-ghost use Rattle.borrower.specs.Outcomes.{effect, heard_effect, Heard, call_effect, call_part, Stepped};
+ghost use Rattle.borrower.specs.Outcomes.{effect, heard_effect, Heard, call_part, Stepped};
 ghost use Rattle.capi.specs.Answers.{TabletSays};
 ghost use Rattle.capi.specs.Buffers.{copied};
 ghost use Rattle.capi.specs.Opening.{TabletFrom};
+ghost use Rattle.capi.specs.Tablets.{effect_on};
 
 use crate::misuse::Misuse;
 use crate::put::{Sent, put_message, put_record};
@@ -68,7 +69,7 @@ pub fn call(
     sent: &mut [u8],
 ) -> Answer
     requires { (1032 ≤ length filed.old) × (1033 ≤ length sent.old) }
-    ensures says { TabletSays (call_effect tablet.old.who.id place.at bytes.now clock tablet.old.short call (part_at tablet.old place.at) (filed_at tablet.old place.at)) result filed.old filed.new sent.old sent.new }
+    ensures says { TabletSays (effect_on tablet.old clock place.at call bytes.now) result filed.old filed.new sent.old sent.new }
     ensures left { Stepped tablet.old tablet.new place.at (call_part clock tablet.old.short call (part_at tablet.old place.at)) }
 {
     let outcome = tablet.perform(clock, place, call);
@@ -104,9 +105,9 @@ pub fn show(
     copy: &mut [u8],
 ) -> Answer
     requires { (1032 ≤ length filed.old) × (1024 ≤ length copy.old) }
-    ensures says { TabletSays (call_effect tablet.old.who.id place.at [] clock tablet.old.short Show (part_at tablet.old place.at) (filed_at tablet.old place.at)) result filed.old filed.new [] [] }
+    ensures says { TabletSays (effect_on tablet.old clock place.at Show []) result filed.old filed.new [] [] }
     ensures left { Stepped tablet.old tablet.new place.at (call_part clock tablet.old.short Show (part_at tablet.old place.at)) }
-    ensures copy { copy.new ≡ copied (call_effect tablet.old.who.id place.at [] clock tablet.old.short Show (part_at tablet.old place.at) (filed_at tablet.old place.at)).answer (copy_at tablet.new place.at) copy.old }
+    ensures copy { copy.new ≡ copied (effect_on tablet.old clock place.at Show []).answer (copy_at tablet.new place.at) copy.old }
 {
     let outcome = tablet.show(clock, place);
     let record_size = put_record(outcome.record, &[0; 1024], filed);
