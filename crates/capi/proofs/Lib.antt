@@ -1,3 +1,4 @@
+pub mod Hosts
 pub mod Plain
 pub mod Recalls
 pub mod Slots

@@ -11,3 +11,4 @@ pub mod Exports
 pub mod Words
 pub mod Tablets
 pub mod Asked
+pub mod Hosted

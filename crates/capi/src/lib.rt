@@ -5,6 +5,7 @@
 mod exports;
 mod handle;
 mod keeper;
+mod laws;
 mod loose;
 mod machine;
 mod misuse;
