@@ -1,5 +1,5 @@
 ghost use Rattle.std.specs.Prelude.{◌≡◌, true, Option, Some, None, is_some};
-ghost use Rattle.libc.specs.Heap.{chunk};
+ghost use Rattle.std.specs.contracts.impls.GlobalAllocator.TheImpl.{ghosts};
 ghost use Rattle.capi.specs.declared.machine.Machine.{Machine};
 ghost use Rattle.capi.specs.contracts.machine.Machine as machine;
 ghost use Rattle.capi.specs.Owned.{owns_if_any};
@@ -21,7 +21,7 @@ pub struct Slot {
 }
 
 impl Model for Slot {
-    ghost also_owns = { λ s. owns_if_any chunk machine.the_row s.at s.value };
+    ghost also_owns = { λ s. owns_if_any (ghosts.dealloc_token s.heap) machine.the_row s.at s.value };
 }
 
 impl Slot {
