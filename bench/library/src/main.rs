@@ -16,9 +16,11 @@ const SHORT: u64 = 1000;
 const LONG: u64 = 1100;
 /// The keeper's grace period is over by then.
 const LOUD: u64 = 3000;
-const PLACE: Place = Place { file: 3, part: 7 };
 /// Calls in a round.
 const CALLS: u32 = 50_000;
+/// Parts and buffers that take turns. Copying 1,024 bytes can take ten times as long where they go to an address that collides
+/// with theirs in the processor: so no row is about one pair of addresses.
+const TURNS: usize = 16;
 
 fn terms() -> Terms {
     Terms::new(RATE, SHORT, LONG).expect("they fit together")
@@ -100,61 +102,89 @@ fn asks(rounds: usize) {
     );
 }
 
-/// A copy that is valid is shown again and again.
+/// Copies that are valid are shown again and again.
 fn shows(rounds: usize) {
-    let (mut ours, mut left, mut copy) = (Tablet::open(5, SHORT, &[]).expect("it is a journal").0, Left::default(), [0; PART]);
-    let (mut other, mut effects) = (Borrower::new(terms(), 5), Effects::default());
-    let loan = bytes_of(Message::Loan { borrower: 5, place: PLACE, number: 1, kind: Kind::Reading, bytes: &[0x17; PART] });
-    assert_eq!(ours.ask(1000, PLACE.file, PLACE.part, 0, &mut left), DONE);
-    assert_eq!(ours.receive(&loan, &mut left), DONE);
-    other.call(1000, Call::Ask { place: PLACE, kind: Kind::Reading }, &mut effects).expect("it holds no copy");
-    other.hear(&loan, &mut effects).expect("it asked for it");
+    let (mut ours, mut left) = (Tablet::open(5, SHORT, &[]).expect("it is a journal").0, Left::default());
+    let mut other = Borrower::new(terms(), 5);
+    let mut copies = vec![Box::new([0; PART]); TURNS];
+    let mut effects: Vec<Effects> = (0..TURNS).map(|_| Effects::default()).collect();
+    for place in places() {
+        let loan = bytes_of(Message::Loan { borrower: 5, place, number: 1, kind: Kind::Reading, bytes: &[0x17; PART] });
+        assert_eq!(ours.ask(1000, place.file, place.part, 0, &mut left), DONE);
+        assert_eq!(ours.receive(&loan, &mut left), DONE);
+        other.call(1000, Call::Ask { place, kind: Kind::Reading }, &mut effects[0]).expect("it holds no copy");
+        other.hear(&loan, &mut effects[0]).expect("it asked for it");
+    }
     row(
         "library: a show",
         rounds,
         || {
-            for _ in 0..CALLS {
-                assert_eq!(ours.show(1500, PLACE.file, PLACE.part, &mut copy, &mut left), DONE);
-                black_box(&copy);
+            for (place, copy) in places().cycle().zip(turns(copies.len())).take(CALLS as usize) {
+                assert_eq!(ours.show(1500, place.file, place.part, &mut copies[copy], &mut left), DONE);
+                black_box(&copies[copy]);
             }
         },
         || {
-            for _ in 0..CALLS {
-                effects.clear();
-                other.call(1500, Call::Show { place: PLACE }, &mut effects).expect("the copy is valid");
-                black_box(&effects);
+            for (place, turn) in places().cycle().zip(turns(effects.len())).take(CALLS as usize) {
+                effects[turn].clear();
+                other.call(1500, Call::Show { place }, &mut effects[turn]).expect("the copy is valid");
+                black_box(&effects[turn]);
             }
         },
     );
+}
+
+/// Parts that stand far from each other.
+fn places() -> impl Iterator<Item = Place> + Clone {
+    (0..TURNS as u8).map(|k| Place { file: k, part: 7 * k })
+}
+
+/// The buffers in turn, so that each part meets each of them.
+fn turns(count: usize) -> impl Iterator<Item = usize> {
+    (0..).map(move |k| (k + k / TURNS) % count)
+}
+
+/// The writes of one borrower with this number, of all parts.
+fn number_writes(writes: &mut [Vec<u8>], number: u32) {
+    for write in writes {
+        write[4..8].copy_from_slice(&number.to_be_bytes());
+    }
 }
 
 /// Writes of one borrower that are applied, one after another.
 fn writes(rounds: usize) {
     let (mut ours, mut left, mut number) = (our_keeper(), Left::default(), 0u32);
     let (mut other, mut effects, mut other_number) = (other_keeper(), Effects::default(), 0u32);
-    let lease = bytes_of(Message::Ask { borrower: 5, place: PLACE, number: 1, kind: Kind::Writing, last_write: 0 });
-    assert_eq!(ours.receive(LOUD, &lease, &mut left), DONE);
-    other.hear(LOUD, &lease, &mut effects).expect("nobody bars it");
-    let mut write = bytes_of(Message::Write { borrower: 5, place: PLACE, number: 0, bytes: &[0x17; PART] });
-    let mut other_write = write.clone();
+    for place in places() {
+        let lease = bytes_of(Message::Ask { borrower: 5, place, number: 1, kind: Kind::Writing, last_write: 0 });
+        assert_eq!(ours.receive(LOUD, &lease, &mut left), DONE);
+        other.hear(LOUD, &lease, &mut effects).expect("nobody bars it");
+    }
+    let write = |place| bytes_of(Message::Write { borrower: 5, place, number: 0, bytes: &[0x17; PART] });
+    let mut writes: Vec<Vec<u8>> = places().map(write).collect();
+    let mut other_writes = writes.clone();
     row(
         "library: a write applied, with no disk",
         rounds,
         || {
-            for _ in 0..CALLS {
+            for _ in 0..CALLS as usize / TURNS {
                 number += 1;
-                write[4..8].copy_from_slice(&number.to_be_bytes());
-                assert_eq!(ours.receive(LOUD, &write, &mut left), DONE);
-                black_box(&left);
+                number_writes(&mut writes, number);
+                for write in &writes {
+                    assert_eq!(ours.receive(LOUD, write, &mut left), DONE);
+                    black_box(&left);
+                }
             }
         },
         || {
-            for _ in 0..CALLS {
+            for _ in 0..CALLS as usize / TURNS {
                 other_number += 1;
-                other_write[4..8].copy_from_slice(&other_number.to_be_bytes());
-                effects.clear();
-                other.hear(LOUD, &other_write, &mut effects).expect("its lease runs");
-                black_box(&effects);
+                number_writes(&mut other_writes, other_number);
+                for write in &other_writes {
+                    effects.clear();
+                    other.hear(LOUD, write, &mut effects).expect("its lease runs");
+                    black_box(&effects);
+                }
             }
         },
     );
