@@ -1,11 +1,11 @@
 -- What is on disk after each call on a store.
 -- Assumes nothing.
-use Rattle.std.proofs.Common.{◌≡◌, ℕ, min, List, [], ◌∷◌, ◌++◌, length, take, Ok, Err, Result, OnOk, append-nil, sym, ap, ◌∙◌, inl, inr, arith}
+use Rattle.std.proofs.Common.{◌≡◌, ℕ, min, List, [], ◌∷◌, ◌++◌, length, take, Ok, Err, Result, OnOk, append-nil, refl, sym, ap, ◌∙◌, inl, inr, arith}
 use Rattle.std.proofs.lemmas.List.{take_all, take-take, length-take}
 use Rattle.std.proofs.lemmas.Bool.{cases_lt}
 use Rattle.journal.specs.Records.{Rec, layout}
-use Rattle.journal.specs.Logs.{Logged}
-use Rattle.journal.specs.Stores.{Disk, Saved, Committed}
+use Rattle.journal.specs.Logs.{Appended, Logged}
+use Rattle.journal.specs.Stores.{Disk, Grown, Saved, Committed}
 
 -- appended first, then synced
 pub grown_synced : {T E : Type 0} (a b c : Disk) (more : List ℕ) (r : Result T E) → (b.appended ≡ a.appended ++ more) × (b.synced ≡ a.synced) → Saved b c r
@@ -28,6 +28,20 @@ take_less s n xs =
 pub logged_by : {T E : Type 0} (was is : Disk) (r : Rec) (res : Result T E) → Committed was (layout r) is res → OnOk res (Logged (r ∷ []) was is)
 logged_by was is r (Ok x) (g, s) = record { grown = g ∙ ap (λ (q : List ℕ). was.appended ++ q) (sym (append-nil (layout r))); synced = λ _. s }
 logged_by was is r (Err x) h = tt
+
+-- a record that was appended
+pub appended_by : {T E : Type 0} (was is : Disk) (r : Rec) (res : Result T E) → Grown was (layout r) is res → OnOk res (Appended (r ∷ []) was is)
+appended_by was is r (Ok x) (g, s) = record { grown = g ∙ ap (λ (q : List ℕ). was.appended ++ q) (sym (append-nil (layout r))); synced = s }
+appended_by was is r (Err x) h = tt
+
+-- without one nothing is
+pub none_appended : (d : Disk) → Appended [] d d
+none_appended d = record { grown = sym (append-nil d.appended); synced = refl }
+
+-- what was appended and then synced is logged
+pub synced_logged : {T E : Type 0} (rs : List Rec) (was mid is : Disk) (res : Result T E) → Appended rs was mid → Saved mid is res → OnOk res (Logged rs was is)
+synced_logged rs was mid is (Ok x) a (g, s) = record { grown = g ∙ a.grown; synced = λ _. s ∙ sym g }
+synced_logged rs was mid is (Err x) a h = tt
 
 -- without a record nothing is
 pub none_logged : (d : Disk) → Logged [] d d

@@ -62,16 +62,22 @@ pub trait Store {
         ensures { Shortened (disk self.old) size (disk self.new) result };
 }
 
-/// Appends bytes and syncs: once it is done they are on the disk, behind what was there. What depends on them may leave
-/// only then.
-pub fn commit<S: Store>(store: &mut S, bytes: &[u8]) -> Result<(), StoreError>
-    ensures { Committed (S.disk store.old) bytes.now (S.disk store.new) result }
+/// Appends a record, with the bytes of `part` where a part is applied. It is not synced: nothing that depends on it may leave yet.
+pub fn append_record<S: Store>(
+    store: &mut S,
+    record: &Record,
+    part: &[u8; 1024],
+) -> Result<(), StoreError>
+    ensures formed { WellFormed (recorded part.now «record».now) }
+    ensures grown { Grown (S.disk store.old) (layout (recorded part.now «record».now)) (S.disk store.new) result }
 {
-    store.append(bytes)?;
-    store.sync()
+    let mut out = [0; 1032];
+    let size = encode(record, part, &mut out).unwrap();
+    store.append(&out[0..size])
 }
 
-/// Appends a record and syncs, with the bytes of `part` where a part is applied.
+/// Appends a record and syncs: once it is done it is on the disk, behind what was there. What depends on it may leave only
+/// then.
 pub fn commit_record<S: Store>(
     store: &mut S,
     record: &Record,
@@ -80,7 +86,6 @@ pub fn commit_record<S: Store>(
     ensures formed { WellFormed (recorded part.now «record».now) }
     ensures committed { Committed (S.disk store.old) (layout (recorded part.now «record».now)) (S.disk store.new) result }
 {
-    let mut out = [0; 1032];
-    let size = encode(record, part, &mut out).unwrap();
-    commit(store, &out[0..size])
+    append_record(store, record, part)?;
+    store.sync()
 }

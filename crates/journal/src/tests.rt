@@ -5,7 +5,7 @@ use crate::replay::{Journaled, OpenError, open, replay};
 use crate::store::failing::FailingStore;
 use crate::store::file::FileStore;
 use crate::store::memory::MemoryStore;
-use crate::store::{Store, StoreError, commit, commit_record};
+use crate::store::{Store, StoreError, commit_record};
 use part::head::Head;
 use part::place::Place;
 use part::who::Who;
@@ -28,6 +28,12 @@ fn numbers(head: Head) -> Record {
         ask: 4294967295,
         write: 0x0102_0304,
     }
+}
+
+// Appends bytes and syncs.
+fn commit<S: Store>(store: &mut S, bytes: &[u8]) -> Result<(), StoreError> {
+    store.append(bytes)?;
+    store.sync()
 }
 
 // Where a journal is cut; none where it is refused.

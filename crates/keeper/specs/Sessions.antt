@@ -1,18 +1,17 @@
--- What stands between two lines: memory is what the journal replays to, and all of the journal is synced. And what a reading does.
+-- What the keeper's program keeps from line to line, and what a line does.
 -- Assumes nothing.
-use Rattle.std.specs.Prelude.{◌≡◌, ℕ, true, Ok, Err, Result, is_ok, MatchBool, if◌then◌else◌, nat_lt}
+use Rattle.std.specs.Prelude.{◌≡◌, ℕ, min, true, List, ◌++◌, take, codes, Some, None, Ok, Err, Option, Result, is_ok, MatchBool, if◌then◌else◌, nat_lt}
 use Rattle.message.specs.declared.refusal.Refusal.{Refusal}
 use Rattle.message.specs.declared.refusal.Refusal.TheVariants.{Malformed}
-use Rattle.lender.specs.Book.{keeper_book}
-use Rattle.lender.specs.Rules.{risen}
-use Rattle.keeper.specs.declared.session.Session.{Session}
+use Rattle.message.specs.Reading.{read}
+use Rattle.journal.specs.Logs.{Appended}
 use Rattle.journal.specs.Stores.{Disk}
 use Rattle.lender.specs.declared.keeper.Keeper.{Keeper}
-use Rattle.lender.specs.OnDisk.{OnDisk}
-
-pub record Settled (k : Keeper) (d : Disk) : Type 0 where
-  pub held : OnDisk k d.appended
-  pub synced : d.synced ≡ d.appended
+use Rattle.lender.specs.Book.{keeper_book, keeper_parts}
+use Rattle.lender.specs.Rules.{risen}
+use Rattle.lender.specs.Replies.{heard_effect, heard_book, heard_parts}
+use Rattle.keeper.specs.declared.session.Session.{Session}
+use Rattle.keeper.specs.Prints.{effect_behind}
 
 -- time never goes back: an earlier reading is refused by 1, and changes nothing
 -- with the first one the keeper comes up, where its grace period fits; the reading counts also where it does not
@@ -22,3 +21,15 @@ ReadAt was is c r =
     ((is.last ≡ c)
     × MatchBool was.up ((r ≡ Ok tt) × (is.up ≡ true) × (is.keeper ≡ was.keeper))
     ((is.up ≡ is_ok r) × (keeper_book is.keeper ≡ (if is_ok r then risen c (keeper_book was.keeper) else keeper_book was.keeper))))
+
+-- a message came: what comes of it by the rules is done, printed, and in the journal
+pub record Received (was is : Keeper) (before after : Disk) (clock : ℕ) (bytes printed_was printed_is : List ℕ) : Type 0 where
+  pub book : keeper_book is ≡ heard_book clock (read bytes) (keeper_book was)
+  pub parts : keeper_parts is ≡ heard_parts clock (read bytes) (keeper_book was) (keeper_parts was)
+  pub printed : printed_is ≡ effect_behind printed_was (heard_effect clock (read bytes) (keeper_book was) (keeper_parts was))
+  pub filed : Appended (heard_effect clock (read bytes) (keeper_book was) (keeper_parts was)).records before after
+
+-- a line that was read: nothing but the reading, or a message of so many bytes, which are in front of the buffer
+abbrev pub Acted : (was is : Keeper) (before after : Disk) (clock : ℕ) → Option ℕ → (buffer printed_was printed_is : List ℕ) → Type 0
+Acted was is d e c None b p p' = (is ≡ was) × (e ≡ d) × (p' ≡ p ++ codes "done\n")
+Acted was is d e c (Some n) b p p' = Received was is d e c (take (min n 1034) b) p p'

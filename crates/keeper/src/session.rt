@@ -1,4 +1,4 @@
-use crate::line::parse;
+use crate::line::{Heard, parse};
 use crate::print;
 use anyhow::Result;
 use journal::store::Store;
@@ -6,7 +6,7 @@ use lender::keeper::Keeper;
 use lines::output::Output;
 use message::refusal::Refusal;
 use startup::print::refused;
-use startup::serve::Answers;
+use startup::serve::{Answers, ROOM};
 
 /// A keeper with its journal, whether it is up, and what its clock read last: a reading counts also where it can't come up.
 #[derive(Drop)]
@@ -19,7 +19,9 @@ pub struct Session<S> {
 
 impl<S: Store> Session<S> {
     ghost use Rattle.std.specs.Prelude.{◌≡◌, false, OnOk};
-    ghost use Rattle.keeper.specs.Sessions.{Settled, ReadAt};
+    ghost use Rattle.lines.specs.Outputs.{printed};
+    ghost use Rattle.lender.specs.OnDisk.{OnDisk};
+    ghost use Rattle.keeper.specs.Sessions.{ReadAt, Received, Acted};
 
     /// It comes up with the first line.
     pub fn new(keeper: Keeper, store: S) -> Session<S>
@@ -35,7 +37,7 @@ impl<S: Store> Session<S> {
 
     // The clock reads this: the keeper comes up if it is not, and time never goes back.
     fn read_clock(&mut self, clock: u64) -> Result<(), Refusal>
-        ensures settled { Settled self.old.keeper (S.disk self.old.store) → Settled self.new.keeper (S.disk self.new.store) }
+        ensures kept { OnDisk self.old.keeper (S.disk self.old.store).appended → OnDisk self.new.keeper (S.disk self.new.store).appended }
         ensures read { ReadAt self.old self.new clock result }
     {
         if clock < self.last {
@@ -49,33 +51,49 @@ impl<S: Store> Session<S> {
         Ok(())
     }
 
-    // A message comes.
-    fn serve(&mut self, clock: u64, message: &[u8], out: &mut Output) -> Result<()>
-        ensures { OnOk result (Settled self.old.keeper (S.disk self.old.store) → Settled self.new.keeper (S.disk self.new.store)) }
+    // A message comes. Its record is in the journal, and not synced yet.
+    fn receive(&mut self, clock: u64, message: &[u8], out: &mut Output) -> Result<()>
+        ensures kept { OnOk result (OnDisk self.old.keeper (S.disk self.old.store).appended → OnDisk self.new.keeper (S.disk self.new.store).appended) }
+        ensures is { OnOk result (Received self.old.keeper self.new.keeper (S.disk self.old.store) (S.disk self.new.store) clock message.now (printed out.old) (printed out.new)) }
     {
-        let reply = self.keeper.serve(&mut self.store, clock, message)?;
+        let reply = self.keeper.take(&mut self.store, clock, message)?;
         Ok(print::reply(out, &self.keeper, reply)?)
+    }
+
+    // What a line says, with what it wrote to the buffer.
+    fn act(&mut self, heard: Heard, buffer: &[u8; ROOM], out: &mut Output) -> Result<()>
+        ensures kept { OnOk result (OnDisk self.old.keeper (S.disk self.old.store).appended → OnDisk self.new.keeper (S.disk self.new.store).appended) }
+        ensures is { OnOk result (Acted self.old.keeper self.new.keeper (S.disk self.old.store) (S.disk self.new.store) heard.clock heard.size buffer.now (printed out.old) (printed out.new)) }
+    {
+        match heard.size {
+            None => Ok(out.text("done\n")?),
+            Some(size) => self.receive(heard.clock, &buffer[0..size.min(ROOM)], out),
+        }
     }
 }
 
 impl<S: Store> Answers for Session<S> {
-    ghost use Rattle.keeper.specs.Sessions.{Settled};
+    ghost use Rattle.std.specs.Prelude.{◌≡◌};
+    ghost use Rattle.lender.specs.OnDisk.{OnDisk};
 
-    ghost keeps = { λ s. Settled s.keeper (S.disk s.store) };
+    // memory is what the journal replays to
+    ghost keeps = { λ s. OnDisk s.keeper (S.disk s.store).appended };
+
+    // all of the journal is on the disk
+    ghost settled = { λ s. (S.disk s.store).synced ≡ (S.disk s.store).appended };
 
     // What the keeper sends and answers is printed.
-    fn answer(&mut self, line: &[u8], out: &mut Output) -> Result<()> {
-        // One byte more than the longest message has, so that no longer one is taken for a message.
-        let mut buffer = [0; 1034];
-        let Some(heard) = parse(line, &mut buffer) else {
+    fn answer(&mut self, line: &[u8], buffer: &mut [u8; ROOM], out: &mut Output) -> Result<()> {
+        let Some(heard) = parse(line, buffer) else {
             return Ok(refused(out, Refusal::Malformed)?);
         };
         if let Err(refusal) = self.read_clock(heard.clock) {
             return Ok(refused(out, refusal)?);
         }
-        match heard.size {
-            None => Ok(out.text("done\n")?),
-            Some(size) => self.serve(heard.clock, &buffer[0..size.min(1034)], out),
-        }
+        self.act(heard, buffer, out)
+    }
+
+    fn settle(&mut self) -> Result<()> {
+        Ok(self.store.sync()?)
     }
 }

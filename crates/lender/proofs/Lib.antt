@@ -3,3 +3,4 @@ pub mod Books
 pub mod Effects
 pub mod Kept
 pub mod OnDisk
+pub mod Recalls

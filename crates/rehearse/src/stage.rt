@@ -9,7 +9,7 @@ use message::refusal::Refusal;
 use script::step::parse;
 use site::seen::{Answer, Seen, Shown};
 use startup::print::{answer, refused};
-use startup::serve::Answers;
+use startup::serve::{Answers, ROOM};
 use std::alloc::{AllocError, Global};
 
 /// A rehearsal whose lines are read and answered.
@@ -42,7 +42,10 @@ impl Answers for Stage {
     // the site was reached by events, the clocks within their error: so all that is promised of a run is so of it
     ghost keeps = { λ s. Reached s.rehearsal.site };
 
-    fn answer(&mut self, line: &[u8], out: &mut Output) -> Result<()> {
+    // nothing of it is on a disk
+    ghost settled = { λ s. Unit {0} };
+
+    fn answer(&mut self, line: &[u8], _buffer: &mut [u8; ROOM], out: &mut Output) -> Result<()> {
         let before = self.rehearsal.site.sent();
         let step = parse(line);
         let said = self.rehearsal.play(step)?;
@@ -51,6 +54,10 @@ impl Answers for Stage {
         }
         self.sent_since(before, out)?;
         Ok(say(said, out)?)
+    }
+
+    fn settle(&mut self) -> Result<()> {
+        Ok(())
     }
 }
 

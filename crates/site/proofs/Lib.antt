@@ -1,7 +1,6 @@
 pub mod OneBorrower
 pub mod OneKeeper
 pub mod FourBorrowers
-pub mod Recalls
 pub mod OnePart
 pub mod Plain
 pub mod Played

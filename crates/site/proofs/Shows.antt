@@ -42,7 +42,7 @@ fresh s i q e m es led =
     let w = world_of s in
     let d = done (w.borrower i).up (call_effect i q what.Show z w).answer e in
     let is : w ≡ (run_of s m es).world = sym led.leads in
-    let shown = (promise s m es led).shown i q z (subst (λ (x : World). (x.borrower i).up ≡ true) is d.up) (subst (λ (x : World). (call_effect i q what.Show z x).answer ≡ Ok tt) is d.done) in
+    let shown = (promise s m es led).holds.shown i q z (subst (λ (x : World). (x.borrower i).up ≡ true) is d.up) (subst (λ (x : World). (call_effect i q what.Show z x).answer ≡ Ok tt) is d.done) in
     (ap (λ (x : World). (x.borrower i).copies q) is ∙ shown.0, subst (λ (x : World). (x.borrower i).copies q ≡ x.keeper.parts q) led.leads shown.1)
 
 -- a call to show leaves every copy: what is there afterwards was there before

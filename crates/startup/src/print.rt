@@ -1,6 +1,6 @@
-ghost use Rattle.std.specs.Prelude.{◌≡◌, ◌++◌, OnOk};
+ghost use Rattle.std.specs.Prelude.{◌≡◌, ◌≤◌, ◌++◌, length, OnOk};
 ghost use Rattle.lines.specs.Outputs.{printed};
-ghost use Rattle.message.specs.Format.{said};
+ghost use Rattle.message.specs.Format.{said, size_of};
 ghost use Rattle.startup.specs.Prints.{refused_text, answer_text, sent_text};
 
 use lines::output::Output;
@@ -30,11 +30,28 @@ pub fn answer(out: &mut Output, answer: Result<(), Refusal>) -> Result<(), Alloc
 }
 
 /// Prints a message that is sent; the bytes of the part go with it where it carries them.
+// Room for the longest message has to be filled with zeros first, so that a short one gets less.
 pub fn sent(out: &mut Output, message: Message, part: &[u8; 1024]) -> Result<(), AllocError>
     ensures { OnOk result (printed out.new ≡ printed out.old ++ sent_text (said part.now message)) }
 {
-    let mut bytes = [0; 1033];
-    let size = encode(&message, part, &mut bytes).unwrap();
+    if message.size() <= 13 {
+        sent_by(out, message, part, &mut [0; 13])
+    } else {
+        sent_by(out, message, part, &mut [0; 1033])
+    }
+}
+
+// The same, by way of bytes that have room for it.
+fn sent_by(
+    out: &mut Output,
+    message: Message,
+    part: &[u8; 1024],
+    bytes: &mut [u8],
+) -> Result<(), AllocError>
+    requires { size_of message ≤ length bytes.now }
+    ensures { OnOk result (printed out.new ≡ printed out.old ++ sent_text (said part.now message)) }
+{
+    let size = encode(&message, part, bytes).unwrap();
     out.text("send ")?;
     out.hex(&bytes[0..size])?;
     out.end_line()

@@ -1,5 +1,6 @@
-ghost use Rattle.std.specs.Prelude.{◌≡◌, is_ok, OnOk, if◌then◌else◌};
+ghost use Rattle.std.specs.Prelude.{◌≡◌, [], is_ok, OnOk, if◌then◌else◌};
 ghost use Rattle.std.specs.Process.{exit_status};
+ghost use Rattle.lines.specs.Outputs.{printed};
 
 use crate::print::refused;
 use anyhow::Result;
@@ -9,23 +10,44 @@ use message::refusal::Refusal;
 use std::io::Write;
 use std::process::ExitCode;
 
+// So many bytes of answers leave together at most, and one line's more.
+const BATCH: usize = 65536;
+
+/// One byte more than the longest message has, so that no longer one is taken for a message.
+pub const ROOM: usize = 1034;
+
 /// What answers the lines of a program's input.
 pub trait Answers {
     // what it keeps from one line to the next, if it had it before the first
     ghost keeps: { Self → Type 0 };
 
-    /// A line comes: what it says is done, and the answer is printed.
-    fn answer(&mut self, line: &[u8], out: &mut Output) -> Result<()>
+    // all that its answers so far depend on is on the disk: they may leave
+    ghost settled: { Self → Type 0 };
+
+    /// A line comes: what it says is done, and the answer is printed. It doesn't leave yet. Bytes that the line says may be put into
+    /// the buffer, which each line uses again.
+    fn answer(&mut self, line: &[u8], buffer: &mut [u8; ROOM], out: &mut Output) -> Result<()>
         ensures { OnOk result (keeps self.old → keeps self.new) };
+
+    /// Brings to the disk what the answers so far depend on.
+    fn settle(&mut self) -> Result<()>
+        ensures kept { OnOk result (keeps self.old → keeps self.new) }
+        ensures safe { OnOk result (settled self.new) };
 }
 
 // Hands on a line, or refuses one that the end of the input cut short. Nothing is printed of a line that fails.
-fn hand_on<A: Answers>(to: &mut A, line: Line, text: &[u8], out: &mut Output) -> Result<()>
+fn hand_on<A: Answers>(
+    to: &mut A,
+    line: Line,
+    text: &[u8],
+    buffer: &mut [u8; ROOM],
+    out: &mut Output,
+) -> Result<()>
     ensures { OnOk result (A.keeps to.old → A.keeps to.new) }
 {
     let before = out.len();
     let done = match line {
-        Line::Whole => to.answer(text, out),
+        Line::Whole => to.answer(text, buffer, out),
         Line::Cut => refused(out, Refusal::Malformed).map_err(anyhow::Error::from),
     };
     if done.is_err() {
@@ -34,8 +56,18 @@ fn hand_on<A: Answers>(to: &mut A, line: Line, text: &[u8], out: &mut Output) ->
     done
 }
 
-/// Hands on each line of standard input, and writes out what was printed before more has to be read: the answers of lines that
-/// are waiting together leave together. A line that the end of the input cut short is refused.
+// Lets the answers leave. Nothing else in a program writes what was printed, so none leaves before what it depends on is safe.
+fn leave<A: Answers, W: Write>(to: &A, out: &mut Output, stdout: &mut W) -> Result<()>
+    requires { A.settled to.now }
+    ensures { OnOk result (printed out.new ≡ []) }
+{
+    stdout.write_all(out.as_slice())?;
+    out.clear();
+    Ok(())
+}
+
+/// Hands on each line of standard input, and lets the answers leave before more has to be read: those of lines that are waiting
+/// together leave together, after one sync. A line that the end of the input cut short is refused.
 pub fn serve<A: Answers>(rt: &HostRuntime, to: &mut A) -> Result<()>
     ensures { OnOk result (A.keeps to.old → A.keeps to.new) }
 {
@@ -43,15 +75,16 @@ pub fn serve<A: Answers>(rt: &HostRuntime, to: &mut A) -> Result<()>
     let mut stdout = rt.stdout();
     let mut input = Input::new(rt.alloc())?;
     let mut out = Output::new(rt.alloc());
+    let mut buffer = [0; ROOM];
     // A count stays: a loop without one would ask for a handle that may wait. 2^64 lines are more than any input has.
     for _ in 0..u64::MAX {
         let Some(line) = input.next_line(&mut stdin)? else {
             break;
         };
-        let done = hand_on(to, line, input.line(), &mut out);
-        if done.is_err() || !input.has_line() {
-            stdout.write_all(out.as_slice())?;
-            out.clear();
+        let done = hand_on(to, line, input.line(), &mut buffer, &mut out);
+        if done.is_err() || !input.has_line() || out.len() >= BATCH {
+            to.settle()?;
+            leave(to, &mut out, &mut stdout)?;
         }
         done?;
     }

@@ -8,11 +8,8 @@ use lines::output::Output;
 use message::refusal::Refusal;
 use part::place::Place;
 use startup::print::refused;
-use startup::serve::Answers;
+use startup::serve::{Answers, ROOM};
 use std::alloc::AllocError;
-
-// One byte more than the longest message has, so that no longer one is taken for a message.
-const ROOM: usize = 1034;
 
 /// A tablet with its journal, and what its clock read last.
 #[derive(Drop)]
@@ -108,15 +105,21 @@ impl<S: Store> Answers for Session<S> {
     // what a tablet keeps from one line to the next is said by its own contracts
     ghost keeps = { λ s. Unit {0} };
 
+    // each of its records is synced before the line is answered
+    ghost settled = { λ s. Unit {0} };
+
     // What the tablet sends, shows, is told and answers is printed.
-    fn answer(&mut self, line: &[u8], out: &mut Output) -> Result<()> {
-        let mut buffer = [0; ROOM];
-        let Some(said) = parse(line, &mut buffer) else {
+    fn answer(&mut self, line: &[u8], buffer: &mut [u8; ROOM], out: &mut Output) -> Result<()> {
+        let Some(said) = parse(line, buffer) else {
             return Ok(refused(out, Refusal::Malformed)?);
         };
         if let Err(refusal) = self.read_clock(said.clock) {
             return Ok(refused(out, refusal)?);
         }
-        self.act(said, &buffer, out)
+        self.act(said, buffer, out)
+    }
+
+    fn settle(&mut self) -> Result<()> {
+        Ok(())
     }
 }

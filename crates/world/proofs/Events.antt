@@ -1,6 +1,6 @@
 -- Each event keeps the whole invariant, and a write that it sends is sent by a call that was allowed.
 -- Assumes nothing.
-use Rattle.std.proofs.Common.{◌≡◌, ℕ, suc, ◌+◌, ◌^◌, ◌<◌, Bool, true, false, cond, eqb, ltb, leb, List, [], ◌++◌, get_or, take, Some, None, Ok, Err, Option, Result, sym, refl, subst, append-nil}
+use Rattle.std.proofs.Common.{◌≡◌, ℕ, suc, ◌+◌, ◌^◌, ◌<◌, Bool, true, false, cond, eqb, ltb, leb, List, [], ◌++◌, Some, None, Ok, Err, Option, Result, sym, refl, subst, append-nil}
 use mathlib.Core.List.Memᴰ
 use mathlib.Core.List.{Memᴰ}
 use Rattle.std.proofs.lemmas.Bool.{cond_both, leb-false}
@@ -136,7 +136,7 @@ module _ (r : Run) (ms : List Msg) (G : Good (setting r.world) r ms) where
 
   -- what arrives was sent
   arrival : (m n : ℕ) (x : Msg) → read (cut m n w') ≡ Some x → Memᴰ x ms
-  arrival m n x = subst (λ (bs : List (List ℕ)). read (take n (get_or bs m [])) ≡ Some x → Memᴰ x ms) (sym G.wire) (arrives ms G.formed m n x)
+  arrival m n x = arrives w'.sent ms G.wire G.formed m n x
 
   calls : (i q : ℕ) (k : Call) (v : List ℕ) (t : Option ℕ) → can_call i q v w' ≡ true → Then (world.call i q k v t) (called i q k v t w')
   calls i q k v None e = let a = callable w' i q v e in record { new = (call_effect i q k v w').sends; good = call_good S r ms G i a.awake q v a.few a.here a.long k; writes = call_writes r i q v a.awake k }
@@ -147,7 +147,7 @@ module _ (r : Run) (ms : List Msg) (G : Good (setting r.world) r ms) where
   hears m n i (Some l) awake = silent _ _ (heard_torn S r ms G i awake (read (cut m n w')) (arrival m n) l)
 
   module _ (C : Clocked S w'.now r.past) where
-    serves : (m n : ℕ) (t : Option ℕ) → w'.keeper.up ≡ true →
+    pub serves : (m n : ℕ) (t : Option ℕ) → w'.keeper.up ≡ true →
         After S r ms (deliver m n keeper t) (record { world = arrived keeper (cut m n w') t w'; past = r.past; applied = puts (whole (keeper_effect (cut m n w') w').records t) r.applied })
     serves m n None awake = record { new = _; good = served_good r ms G C awake (cut m n w') (arrival m n); writes = λ p h. absurd (each_at NoWrite _ (none (w'.now.hand 0) (read (cut m n w')) w'.keeper.book w'.keeper.parts) _ h tt) }
     serves m n (Some l) awake = unsaid _ _ (served_torn r ms G C awake (cut m n w') (arrival m n) l)

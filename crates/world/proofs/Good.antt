@@ -1,10 +1,10 @@
 -- The whole invariant of a run, and what a borrower's events do to it.
 -- Assumes nothing.
-use Rattle.std.proofs.Common.{◌≡◌, ℕ, ◌+◌, ◌<◌, ◌≤◌, Bool, true, false, cond, eqb, leb, List, [], ◌∷◌, ◌++◌, map, length, Some, sym, refl, ap, ◌∙◌, subst, append-nil, arith}
+use Rattle.std.proofs.Common.{◌≡◌, ℕ, ◌+◌, ◌<◌, ◌≤◌, Bool, true, false, cond, eqb, leb, List, [], ◌∷◌, ◌++◌, length, Some, sym, refl, ap, ◌∙◌, subst, arith}
 use mathlib.Core.List.{Memᴰ}
 use Rattle.std.proofs.lemmas.Bool.{cond_both}
 use Rattle.part.specs.Parts.{at_1}
-use Rattle.message.specs.Format.{Msg, WellFormed, layout}
+use Rattle.message.specs.Format.{Msg, WellFormed}
 use Rattle.journal.specs.declared.record.Owner.TheVariants as owner
 use Rattle.journal.specs.Records.{Rec, Numbers, AllSound, bytes_of, records_of}
 use Rattle.lender.specs.Replay.{memory}
@@ -25,7 +25,7 @@ use Rattle.world.proofs.Borrow.{at_both, held_more}
 use Rattle.world.proofs.View.{view, stepped, one_moves, filed_is}
 use Rattle.world.proofs.Calls.{nobody}
 use Rattle.world.proofs.Files.{Journal, Few, said_append, grown_records, grown_journal, torn_records, said_due, cut_journal}
-use Rattle.world.proofs.Wire.{more_formed, more_wire, near_small}
+use Rattle.world.proofs.Wire.{Carries, more_formed, more_wire, less_wire, near_small}
 
 abbrev pub setting : World → Setting
 setting w = record { short = w.short; long = w.keeper.book.long }
@@ -41,10 +41,10 @@ pub record BorrowerFile (b : Borrower) : Type 0 where
   pub journal : Journal owner.Borrower b.up b.file
   pub numbers : b.filed ≡ numbers_in b.file
 
--- ms: the messages whose bytes were sent
+-- ms: all messages that were made, of which at least those whose bytes were sent
 pub record Good (S : Setting) (r : Run) (ms : List Msg) : Type 0 where
   pub inv : Inv S (view r.world r.past ms r.applied)
-  pub wire : r.world.sent ≡ map layout ms
+  pub wire : Carries r.world.sent ms
   pub formed : (m : Msg) → Memᴰ m ms → WellFormed m
   pub keeper : KeeperFile r.world.keeper r.applied
   pub borrowers : (i : ℕ) → BorrowerFile (r.world.borrower i)
@@ -92,8 +92,8 @@ module _ (S : Setting) (r : Run) (ms : List Msg) (G : Good S r ms) (i : ℕ) whe
   others b f = at_both i b w.borrower (λ j x. BorrowerFile x) f (λ j ne. G.borrowers j)
 
   -- nothing was said
-  silence : w.sent ≡ map layout (ms ++ [])
-  silence = G.wire ∙ ap (map layout) (sym (append-nil ms))
+  silence : Carries w.sent (ms ++ [])
+  silence = less_wire w.sent ms [] G.wire
 
   -- THE BORROWER LOSES ITS MEMORY: what it has is what a journal says
   down_good : (b : Borrower) → BorrowerFile b → ((q : ℕ) → Grows (B.filed q) (b.filed q)) → b.parts ≡ (λ q. risen (b.filed q)) → Good S (on r (with_borrower i b w)) (ms ++ [])

@@ -14,5 +14,6 @@ pub mod Time
 mod Tick
 mod Events
 pub mod Whole
+pub mod Batches
 mod Comes
 mod Cases

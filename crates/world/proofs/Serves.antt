@@ -48,7 +48,7 @@ write_few i q n v write.Void = tt
 write_few i q n v write.Passed = tt
 write_few i q n v write.Quiet = tt
 
-few : (c : ℕ) (o : Option Msg) (b : Book) (f : ℕ → List ℕ) → Few (heard_effect c o b f).records
+pub few : (c : ℕ) (o : Option Msg) (b : Book) (f : ℕ → List ℕ) → Few (heard_effect c o b f).records
 few c None b f = tt
 few c (Some (Ask i q n k l)) b f = ask_few i q l (ask_answer c i q k l b)
 few c (Some (Loan i q n k v)) b f = tt

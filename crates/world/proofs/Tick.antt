@@ -95,7 +95,7 @@ start_good s l m =
     record {
       inv = subst (λ (ks : List Rec). Inv (record { short = s; long = l }) (first m ks (records_of owner.Borrower []))) (sym k.0)
           (subst (λ (bs : List Rec). Inv (record { short = s; long = l }) (first m [] bs)) (sym b.0) (first_inv (record { short = s; long = l }) m));
-      wire = refl;
+      wire = λ b h. elim h [ ];
       formed = λ m h. elim h [ ];
       keeper = record { journal = k.1; kept = refl; on_disk = ap (λ (rs : List Rec). puts rs []) (sym k.0) };
       borrowers = λ i. record { journal = b.1; numbers = refl };

@@ -71,7 +71,7 @@ stopped_still : (w : World) (x : Node) → Still w (stopped x w)
 stopped_still w keeper = record { now = refl; terms = refl }
 stopped_still w (borrower i) = record { now = refl; terms = refl }
 
-risen_still : (w : World) (x : Node) → Still w (risen_from x w)
+pub risen_still : (w : World) (x : Node) → Still w (risen_from x w)
 risen_still w keeper = cond_both (leb (2 ^ 64) (w.now.hand 0 + long_of w)) w (with_keeper (keeper_up (w.now.hand 0) (long_of w) w.keeper.file) w) (Still w) (λ e. still w) (λ e. record { now = refl; terms = refl })
 risen_still w (borrower i) = cond_both (ltb i 32) (with_borrower i (borrower_up (w.borrower i).file) w) w (Still w) (λ e. record { now = refl; terms = refl }) (λ e. still w)
 
@@ -82,21 +82,40 @@ same_terms w (deliver m n x t) = (cond_both (is_up x w) (arrived x (cut m n w) t
 same_terms w (stop x) = (cond_both (is_up x w) (stopped x w) w (Still w) (λ e. stopped_still w x) (λ e. still w)).terms
 same_terms w (up x) = (cond_both (is_up x w) w (risen_from x w) (Still w) (λ e. still w) (λ e. risen_still w x)).terms
 
+-- no time passes
+abbrev pub Timeless : Event → Type 0
+Timeless (tick p) = ⊥
+Timeless (call i q c v t) = Unit {0}
+Timeless (deliver m n x t) = Unit {0}
+Timeless (stop x) = Unit {0}
+Timeless (up x) = Unit {0}
+
+pub same_moments : (r : Run) (e : Event) → Timeless e → moments (next r e) ≡ moments r
+same_moments r (tick p) z = absurd z
+same_moments r (call i q c v t) z = ap (λ (m : Moment). m ∷ r.past) (cond_both (can_call i q v r.world) (called i q c v t r.world) r.world (Still r.world) (λ e. called_still r.world i q c v t) (λ e. still r.world)).now
+same_moments r (deliver m n x t) z = ap (λ (m : Moment). m ∷ r.past) (cond_both (is_up x r.world) (arrived x (cut m n r.world) t r.world) r.world (Still r.world) (λ e. arrived_still r.world x (cut m n r.world) t) (λ e. still r.world)).now
+same_moments r (stop x) z = ap (λ (m : Moment). m ∷ r.past) (cond_both (is_up x r.world) (stopped x r.world) r.world (Still r.world) (λ e. stopped_still r.world x) (λ e. still r.world)).now
+same_moments r (up x) z = ap (λ (m : Moment). m ∷ r.past) (cond_both (is_up x r.world) r.world (risen_from x r.world) (Still r.world) (λ e. still r.world) (λ e. risen_still r.world x)).now
+
+-- the moments are as they were, or there is one more
+abbrev pub Timely : (now : Moment) (past is : List Moment) → Type 0
+Timely now past is = (is ≡ now ∷ past) ⊎ ((p : Passing) × (is ≡ after now p ∷ (now ∷ past)))
+
 -- an event leaves the time, or is a tick
-timely : (r : Run) (e : Event) → (moments (next r e) ≡ moments r) ⊎ ((p : Passing) × (moments (next r e) ≡ after r.world.now p ∷ moments r))
+pub timely : (r : Run) (e : Event) → Timely r.world.now r.past (moments (next r e))
 timely r (tick p) = inr (p, refl)
-timely r (call i q c v t) = inl (ap (λ (m : Moment). m ∷ r.past) (cond_both (can_call i q v r.world) (called i q c v t r.world) r.world (Still r.world) (λ e. called_still r.world i q c v t) (λ e. still r.world)).now)
-timely r (deliver m n x t) = inl (ap (λ (m : Moment). m ∷ r.past) (cond_both (is_up x r.world) (arrived x (cut m n r.world) t r.world) r.world (Still r.world) (λ e. arrived_still r.world x (cut m n r.world) t) (λ e. still r.world)).now)
-timely r (stop x) = inl (ap (λ (m : Moment). m ∷ r.past) (cond_both (is_up x r.world) (stopped x r.world) r.world (Still r.world) (λ e. stopped_still r.world x) (λ e. still r.world)).now)
-timely r (up x) = inl (ap (λ (m : Moment). m ∷ r.past) (cond_both (is_up x r.world) r.world (risen_from x r.world) (Still r.world) (λ e. still r.world) (λ e. risen_still r.world x)).now)
+timely r (call i q c v t) = inl (same_moments r (call i q c v t) tt)
+timely r (deliver m n x t) = inl (same_moments r (deliver m n x t) tt)
+timely r (stop x) = inl (same_moments r (stop x) tt)
+timely r (up x) = inl (same_moments r (up x) tt)
+
+pub in_order : (now : Moment) (past is : List Moment) → Timely now past is → Pairs Later (now ∷ past) → Pairs Later is
+unfolding Pairs
+in_order now past is (inl s) h = subst (Pairs Later) (sym s) h
+in_order now past is (inr (p, s)) h = subst (Pairs Later) (sym s) ((λ o m. later_after o now p (earlier now past h o m)), h)
 
 pub ordered : (r : Run) (e : Event) → Pairs Later (moments r) → Pairs Later (moments (next r e))
-unfolding Pairs
-ordered r e h = go (timely r e)
-  where
-    go : (moments (next r e) ≡ moments r) ⊎ ((p : Passing) × (moments (next r e) ≡ after r.world.now p ∷ moments r)) → Pairs Later (moments (next r e))
-    go (inl s) = subst (Pairs Later) (sym s) h
-    go (inr (p, s)) = subst (Pairs Later) (sym s) ((λ o m. later_after o r.world.now p (earlier r.world.now r.past h o m)), h)
+ordered r e h = in_order r.world.now r.past (moments (next r e)) (timely r e) h
 
 pub time_goes_on : TimeGoesOn
 unfolding Pairs run
@@ -104,13 +123,13 @@ time_goes_on s l m [] = ((λ o z. elim z [ ]), tt)
 time_goes_on s l m (e ∷ es) = ordered (run (start s l m) es) e (time_goes_on s l m es)
 
 -- what holds of all moments held of those before
-pub back : (P : Moment → Moment → Type 0) (r : Run) (e : Event) → Pairs P (moments (next r e)) → Pairs P (moments r)
+pub held_before : (P : Moment → Moment → Type 0) (now : Moment) (past is : List Moment) → Timely now past is → Pairs P is → Pairs P (now ∷ past)
 unfolding Pairs
-back P r e h = go (timely r e)
-  where
-    go : (moments (next r e) ≡ moments r) ⊎ ((p : Passing) × (moments (next r e) ≡ after r.world.now p ∷ moments r)) → Pairs P (moments r)
-    go (inl s) = subst (Pairs P) s h
-    go (inr (p, s)) = (subst (Pairs P) s h).1
+held_before P now past is (inl s) h = subst (Pairs P) s h
+held_before P now past is (inr (p, s)) h = (subst (Pairs P) s h).1
+
+pub back : (P : Moment → Moment → Type 0) (r : Run) (e : Event) → Pairs P (moments (next r e)) → Pairs P (moments r)
+back P r e h = held_before P r.world.now r.past (moments (next r e)) (timely r e) h
 
 same_keeps : (rate grain t x : ℕ) → Keeps rate grain (t - t) (x - x)
 same_keeps rate grain t x = record { slow = simp sub_self (omega arith); fast = simp sub_self (omega arith) }

@@ -15,7 +15,7 @@ use Rattle.borrower.specs.declared.outcome.Call.TheVariants as call
 use Rattle.borrower.specs.Steps.{copy, stale, released, settled, showing}
 use Rattle.world.specs.World.{World, Event, call_effect}
 use Rattle.world.specs.Runs.{Put, Run, moments, next, run, start}
-use Rattle.world.specs.Promise.{Unhindered, to_write, pause, SilenceEnds, Assumed, MayShow, Sent, Made, Promise, Theorem, latest}
+use Rattle.world.specs.Promise.{Unhindered, to_write, pause, SilenceEnds, Assumed, MayShow, Sent, Made, Holds, Promise, Theorem, latest}
 use Rattle.world.proofs.Inv.{Setting, Clocked, Live}
 use Rattle.world.proofs.Wire.{was_sent}
 use Rattle.world.proofs.Good.{setting, Good}
@@ -90,19 +90,13 @@ counts c s p = cond_both (stale c s p.hold) (released p) p (λ (x : Part). showi
     of_hold None e z y = absurd (cc)
     of_hold (Some g) e z y = record { kind = g.kind; asked = g.asked; holds = e; valid = leb-false (g.asked + s) c z }
 
-module _ (S : Setting) (first : Run) (events : List Event) (b : Reached S first events) (terms : setting (run first events).world ≡ S) (short_pos : 0 < S.short) (long_pos : 0 < S.long) where
-  abbrev r : Run
-  r = run first events
-
+module _ (S : Setting) (r : Run) (ms : List Msg) (G : Good S r ms) (terms : setting r.world ≡ S) (short_pos : 0 < S.short) (long_pos : 0 < S.long) where
   abbrev w : World
   w = r.world
 
-  abbrev G : Good S r b.sent
-  G = b.good
-
   -- what may be shown came in a loan that is valid
   record Lent (i q : ℕ) (k : Kind) : Type 0 where
-    pub mem : Memᴰ (Loan i q ((w.borrower i).parts q).ask k ((w.borrower i).copies q)) b.sent
+    pub mem : Memᴰ (Loan i q ((w.borrower i).parts q).ask k ((w.borrower i).copies q)) ms
     pub live : Live S w.now i ((w.borrower i).parts q) ((w.borrower i).parts q).ask
 
   lent : (i q : ℕ) (k : Kind) → MayShow w i q k → Lent i q k
@@ -125,10 +119,10 @@ module _ (S : Setting) (first : Run) (events : List Event) (b : Reached S first 
       let c = lent j q l y in
       (G.inv.apart i j q _ _ k l _ _ ne a.mem c.mem a.live c.live, G.inv.apart j i q _ _ l k _ _ (λ e. ne (sym e)) c.mem a.mem c.live a.live)
 
-  sent : (x : Msg) → Sent w x → Memᴰ x b.sent
-  sent x s = was_sent w b.sent G.wire G.formed x s
+  sent : (x : Msg) → Sent w x → Memᴰ x ms
+  sent x s = was_sent w ms G.wire G.formed x s
 
-  gets_to_write : (i q : ℕ) (v : List ℕ) → Unhindered w i q v →
+  pub gets_to_write : (i q : ℕ) (v : List ℕ) → Unhindered w i q v →
       ((run r (to_write i q v w)).applied ≡ record { who = i; place = q; number = ((w.borrower i).parts q).write + 1; bytes = v } ∷ r.applied) × (moments (run r (to_write i q v w)) ≡ moments r)
   gets_to_write i q v u =
       let a = callable w i q v u.can in
@@ -136,23 +130,21 @@ module _ (S : Setting) (first : Run) (events : List Event) (b : Reached S first 
       six i q v a.few a.here a.long r u a.awake (subst (λ (s : Setting). 0 < s.short) (sym terms) short_pos) (subst (λ (s : Setting). 0 < s.long) (sym terms) long_pos)
       (subst (λ (s : Memory). length (s.parts q) ≡ 1024) (sym G.keeper.kept) (recovered_long w.keeper.file q a.here)) known.0.written known.1.written
 
-  promised : Promise first events r
+  pub promised : Holds r
   promised =
       record {
         fresh = fresh;
         shown = shown;
         one_writer = one_writer;
-        only_writes = λ p h. b.made p (G.inv.puts p h).1;
         once = G.inv.once;
         told = λ i q n s. G.inv.mail (In i q n) (sent (In i q n) s);
         void = λ i q n s. (G.inv.mail (Void i q n) (sent (Void i q n) s)).1;
         on_disk = G.keeper.on_disk;
         kept = G.keeper.kept;
-        can_write = λ i q v u. (_, (gets_to_write i q v u).0);
       }
 
 -- terms that fit are not 0
-lasts : (rate short long : ℕ) → Fits rate short long → (0 < short) × (0 < long)
+pub lasts : (rate short long : ℕ) → Fits rate short long → (0 < short) × (0 < long)
 lasts rate short zero f = absurd (omega (arith, f.3))
 lasts rate short (suc l) f = (omega (arith, f.1), omega arith)
 
@@ -163,12 +155,17 @@ module _ (rate short long grain : ℕ) (m : Moment) (events : List Event) (given
   reaches : Reached (record { short = short; long = long }) (start short long m) events
   reaches = reached rate short long grain given.terms given.units m events given.clocks
 
-  promise : Promise (start short long m) events r'
-  promise = let l = lasts rate short long given.terms in promised (record { short = short; long = long }) (start short long m) events reaches (terms_are short long m events) l.0 l.1
-
   in_time : (i q : ℕ) (v : List ℕ) → Unhindered r'.world i q v →
       ((run r' (to_write i q v r'.world)).applied ≡ record { who = i; place = q; number = ((r'.world.borrower i).parts q).write + 1; bytes = v } ∷ r'.applied) × (moments (run r' (to_write i q v r'.world)) ≡ moments r')
-  in_time = let l = lasts rate short long given.terms in gets_to_write (record { short = short; long = long }) (start short long m) events reaches (terms_are short long m events) l.0 l.1
+  in_time = let l = lasts rate short long given.terms in gets_to_write (record { short = short; long = long }) r' reaches.sent reaches.good (terms_are short long m events) l.0 l.1
+
+  promise : Promise (start short long m) events r'
+  promise =
+      record {
+        holds = let l = lasts rate short long given.terms in promised (record { short = short; long = long }) r' reaches.sent reaches.good (terms_are short long m events) l.0 l.1;
+        only_writes = λ p h. reaches.made p (reaches.good.inv.puts p h).1;
+        can_write = λ i q v u. (_, (in_time i q v u).0);
+      }
 
 pub whole : Theorem
 whole = promise

@@ -47,14 +47,32 @@ same m x n f e = go (cases_lt n (length (layout m))) (read_some (take n (layout 
     go (inl h) r = absurd (cut_short m f n h x r.0 r.1)
     go (inr h) r = distinct x m r.0 f (r.1 ∙ take_all n (layout m) h)
 
-pub arrives : (ms : List Msg) → ((m : Msg) → Memᴰ m ms → WellFormed m) → (k n : ℕ) (x : Msg) → read (take n (get_or (map layout ms) k [])) ≡ Some x → Memᴰ x ms
-arrives [] f k n x e = absurd (tag_first x ((read_some _ x e).1 ∙ ap (take n) (nothing k) ∙ take_all n [] (omega arith)))
+-- these bytes are those of messages
+abbrev pub Carries : List (List ℕ) → List Msg → Type 0
+Carries bs ms = (b : List ℕ) → Memᴰ b bs → Memᴰ b (map layout ms)
+
+from_cut : (ms : List Msg) → ((m : Msg) → Memᴰ m ms → WellFormed m) → (b : List ℕ) (n : ℕ) (x : Msg) → Memᴰ b (map layout ms) → read (take n b) ≡ Some x → Memᴰ x ms
+from_cut [] f b n x h e = elim h [ ]
+from_cut (m ∷ ms) f b n x (Memᴰ.head p) e = Memᴰ.head (same m x n (f m (Memᴰ.head refl)) (ap (λ (y : List ℕ). read (take n y)) (sym p) ∙ e))
+from_cut (m ∷ ms) f b n x (Memᴰ.tail p) e = Memᴰ.tail (from_cut ms (λ y h. f y (Memᴰ.tail h)) b n x p e)
+
+-- what stands at a place of a list is one of it, or nothing
+one_of : (bs : List (List ℕ)) (k : ℕ) → (get_or bs k [] ≡ []) ⊎ Memᴰ (get_or bs k []) bs
+one_of [] zero = inl refl
+one_of [] (suc k) = inl refl
+one_of (b ∷ bs) zero = inr (Memᴰ.head refl)
+one_of (b ∷ bs) (suc k) = go (one_of bs k)
   where
-    nothing : (k : ℕ) → get_or {A = List ℕ} [] k [] ≡ []
-    nothing zero = refl
-    nothing (suc k) = refl
-arrives (m ∷ ms) f zero n x e = Memᴰ.head (same m x n (f m (Memᴰ.head refl)) e)
-arrives (m ∷ ms) f (suc k) n x e = Memᴰ.tail (arrives ms (λ y h. f y (Memᴰ.tail h)) k n x e)
+    go : (get_or bs k [] ≡ []) ⊎ Memᴰ (get_or bs k []) bs → (get_or bs k [] ≡ []) ⊎ Memᴰ (get_or bs k []) (b ∷ bs)
+    go (inl e) = inl e
+    go (inr h) = inr (Memᴰ.tail h)
+
+pub arrives : (bs : List (List ℕ)) (ms : List Msg) → Carries bs ms → ((m : Msg) → Memᴰ m ms → WellFormed m) → (k n : ℕ) (x : Msg) → read (take n (get_or bs k [])) ≡ Some x → Memᴰ x ms
+arrives bs ms w f k n x e = go (one_of bs k)
+  where
+    go : (get_or bs k [] ≡ []) ⊎ Memᴰ (get_or bs k []) bs → Memᴰ x ms
+    go (inl z) = absurd (tag_first x ((read_some _ x e).1 ∙ ap (take n) z ∙ take_all n [] (omega arith)))
+    go (inr h) = from_cut ms f (get_or bs k []) n x (w _ h) e
 
 -- bytes that were sent are those of a message
 pub from_bytes : (ms : List Msg) → ((m : Msg) → Memᴰ m ms → WellFormed m) → (b : List ℕ) (x : Msg) → Memᴰ b (map layout ms) → read b ≡ Some x → Memᴰ x ms
@@ -65,8 +83,8 @@ from_bytes (m ∷ ms) f b x (Memᴰ.head p) e = Memᴰ.head (cc' (sym (read_layo
     cc' z = cc
 from_bytes (m ∷ ms) f b x (Memᴰ.tail p) e = Memᴰ.tail (from_bytes ms (λ y h. f y (Memᴰ.tail h)) b x p e)
 
-pub was_sent : (w : World) (ms : List Msg) → w.sent ≡ map layout ms → ((m : Msg) → Memᴰ m ms → WellFormed m) → (x : Msg) → Sent w x → Memᴰ x ms
-was_sent w ms e f x s = from_bytes ms f s.bytes x (subst (λ (l : List (List ℕ)). Memᴰ s.bytes l) e s.mem) s.reads
+pub was_sent : (w : World) (ms : List Msg) → Carries w.sent ms → ((m : Msg) → Memᴰ m ms → WellFormed m) → (x : Msg) → Sent w x → Memᴰ x ms
+was_sent w ms e f x s = from_bytes ms f s.bytes x (e s.bytes s.mem) s.reads
 
 -- what is known of the messages so far and of those that are sent now
 pub more_formed : (ms new : List Msg) → ((m : Msg) → Memᴰ m ms → WellFormed m) → Each WellFormed new → (m : Msg) → Memᴰ m (ms ++ new) → WellFormed m
@@ -76,8 +94,16 @@ more_formed ms new f h m x = go (Memᴰ.append_cases ms x)
     go (inl y) = f m y
     go (inr y) = each_at WellFormed new h m y
 
-pub more_wire : (bs : List (List ℕ)) (ms new : List Msg) → bs ≡ map layout ms → bs ++ map layout new ≡ map layout (ms ++ new)
-more_wire bs ms new e = ap (λ (x : List (List ℕ)). x ++ map layout new) e ∙ sym (map-append layout ms new)
+pub more_wire : (bs : List (List ℕ)) (ms new : List Msg) → Carries bs ms → Carries (bs ++ map layout new) (ms ++ new)
+more_wire bs ms new w b h = subst (Memᴰ b) (sym (map-append layout ms new)) (go (Memᴰ.append_cases bs h))
+  where
+    go : Memᴰ b bs ⊎ Memᴰ b (map layout new) → Memᴰ b (map layout ms ++ map layout new)
+    go (inl x) = Memᴰ.append_left (map layout new) (w b x)
+    go (inr x) = Memᴰ.append_right (map layout ms) x
+
+-- messages that are known carry the same bytes, where more are known
+pub less_wire : (bs : List (List ℕ)) (ms new : List Msg) → Carries bs ms → Carries bs (ms ++ new)
+less_wire bs ms new w b h = subst (Memᴰ b) (sym (map-append layout ms new)) (Memᴰ.append_left (map layout new) (w b h))
 
 -- WHAT THE KEEPER SENDS
 

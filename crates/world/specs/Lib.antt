@@ -3,3 +3,4 @@ pub mod Runs
 pub mod Promise
 pub mod Laws
 pub mod Cases
+pub mod Batches

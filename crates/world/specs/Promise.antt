@@ -78,7 +78,8 @@ to_write i q v w =
     call i q (Ask Writing) v None ∷
     call i q Forget v None ∷ []
 
-pub record Promise (first : Run) (events : List Event) (r : Run) : Type 0 where
+-- of a world, the writes that were applied to it, and what was sent in it
+pub record Holds (r : Run) : Type 0 where
   -- a copy that may be shown is what the newest write applied anywhere has left, and that is what the keeper has
   pub fresh : (i q : ℕ) (k : Kind) → MayShow r.world i q k →
       ((r.world.borrower i).copies q ≡ latest q r.applied) × ((r.world.borrower i).copies q ≡ r.world.keeper.parts q)
@@ -87,8 +88,7 @@ pub record Promise (first : Run) (events : List Event) (r : Run) : Type 0 where
       ((r.world.borrower i).copies q ≡ latest q r.applied) × ((r.world.borrower i).copies q ≡ r.world.keeper.parts q)
   -- no two borrowers may show a part while one of them may write it
   pub one_writer : (i j q : ℕ) (k l : Kind) → (i ≢ j) → MayShow r.world i q k → MayShow r.world j q l → (k ≡ Reading) × (l ≡ Reading)
-  -- what is applied was sent by a call that was allowed, and nothing is applied twice
-  pub only_writes : (p : Put) → Memᴰ p r.applied → Made first events p
+  -- nothing is applied twice
   pub once : Once r.applied
   -- a write that was answered as in is applied
   pub told : (i q n : ℕ) → Sent r.world (In i q n) → (v : List ℕ) × Memᴰ (record { who = i; place = q; number = n; bytes = v }) r.applied
@@ -98,6 +98,11 @@ pub record Promise (first : Run) (events : List Event) (r : Run) : Type 0 where
   pub on_disk : r.applied ≡ puts (records_of owner.Keeper r.world.keeper.file) []
   -- what the keeper has is what its journal replays to
   pub kept : memory r.world.keeper.book r.world.keeper.parts ≡ recovered r.world.keeper.file
+
+pub record Promise (first : Run) (events : List Event) (r : Run) : Type 0 where
+  pub holds : Holds r
+  -- what is applied was sent by a call that was allowed
+  pub only_writes : (p : Put) → Memᴰ p r.applied → Made first events p
   -- whom nothing hinders gets to write: these six events end with its write as the newest applied
   pub can_write : (i q : ℕ) (v : List ℕ) → Unhindered r.world i q v →
       (n : ℕ) × ((run r (to_write i q v r.world)).applied ≡ record { who = i; place = q; number = n; bytes = v } ∷ r.applied)

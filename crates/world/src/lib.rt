@@ -1,6 +1,7 @@
 // The world of one keeper, its borrowers, the network, the journals and the true time, and what is true of all its runs.
 #![tactic(auto)]
 
+ghost use Rattle.world.specs.Batches.{BatchTheorem};
 ghost use Rattle.world.specs.Cases.{AllCome, cases};
 ghost use Rattle.world.specs.Laws.{TimeGoesOn};
 ghost use Rattle.world.specs.Promise.{Theorem, SilenceEnds};
@@ -20,6 +21,12 @@ pub fn keeps_promise()
 /// of those who don't answer have ended it gets to write.
 pub fn silence_ends()
     ensures { SilenceEnds }
+{}
+
+/// Names the theorem of a keeper whose messages share syncs: whatever happens and wherever it stops, its journal is left as after some
+/// first part of its messages, none of whose answers has left that is not safe, and all that is promised of a run holds.
+pub fn batches_keep_promise()
+    ensures { BatchTheorem }
 {}
 
 /// Names the table of cases: some runs, event by event, and what is answered to each.

@@ -14,6 +14,8 @@ use std::path::Path;
 pub struct FileStore {
     file: File,
     taken: MemoryStore,
+    // it was cut, and this is not on the disk yet
+    cut: bool,
 }
 
 // Brings the folder of a file to the disk, so that the file's name is there after a stop.
@@ -64,6 +66,7 @@ impl FileStore {
         Ok(FileStore {
             file,
             taken: MemoryStore::holding(bytes),
+            cut: false,
         })
     }
 }
@@ -85,8 +88,13 @@ impl Store for FileStore {
         Ok(())
     }
 
+    // Where nothing has come since the last sync, the system isn't asked: answers that append nothing cost no sync.
     fn sync(&mut self) -> Result<(), StoreError> {
+        if self.taken.is_synced() && !self.cut {
+            return Ok(());
+        }
         self.file.sync_data().map_err(|_| StoreError::Failed)?;
+        self.cut = false;
         self.taken.sync()
     }
 
@@ -96,6 +104,7 @@ impl Store for FileStore {
         self.file
             .set_len(end as u64)
             .map_err(|_| StoreError::Failed)?;
+        self.cut = true;
         self.taken.truncate(size)
     }
 }

@@ -1,6 +1,6 @@
 ghost use Rattle.std.specs.Prelude.{◌≡◌, ℕ, ◌+◌, ◌^◌, List, is_ok, IfOk, IsOkUnless, if◌then◌else◌, OnOk, nat_lt};
 ghost use Rattle.message.specs.Reading.{read};
-ghost use Rattle.journal.specs.Logs.{Logged};
+ghost use Rattle.journal.specs.Logs.{Appended, Logged};
 ghost use Rattle.lender.specs.Book.{keeper_book, keeper_parts};
 ghost use Rattle.lender.specs.Rules.{risen};
 ghost use Rattle.lender.specs.OnDisk.{OnDisk};
@@ -9,7 +9,7 @@ ghost use Rattle.lender.specs.Replies.{effect, place_in, heard_effect, heard_boo
 use crate::answer::Reply;
 use crate::keeper::Keeper;
 use journal::record::Record;
-use journal::store::{Store, StoreError, commit_record};
+use journal::store::{Store, StoreError, append_record};
 use message::refusal::Refusal;
 use part::place::Place;
 
@@ -58,17 +58,36 @@ impl Keeper {
         self.files.part(place_in(record))
     }
 
-    // Appends the record of a reply, if there is one, and syncs. The part's bytes are looked for only where there is one.
-    fn log<S: Store>(&self, store: &mut S, record: Option<Record>) -> Result<(), StoreError>
-        ensures { OnOk result (Logged (recorded_by (keeper_parts self.now) «record») (S.disk store.old) (S.disk store.new)) }
+    // Appends the record of a reply, if there is one. The part's bytes are looked for only where there is one.
+    fn append<S: Store>(&self, store: &mut S, record: Option<Record>) -> Result<(), StoreError>
+        ensures { OnOk result (Appended (recorded_by (keeper_parts self.now) «record») (S.disk store.old) (S.disk store.new)) }
     {
         match record {
             None => Ok(()),
-            Some(record) => commit_record(store, &record, self.part_of(record)),
+            Some(record) => append_record(store, &record, self.part_of(record)),
         }
     }
 
-    // Store, reading and bytes stay three parameters: each is from somewhere else.
+    // Store, reading and bytes stay three parameters, here and below: each is from somewhere else.
+    /// A message comes, one of several that are to share a sync: its record is in the journal, and nothing of the reply may leave
+    /// before the journal is synced.
+    pub fn take<S: Store>(
+        &mut self,
+        store: &mut S,
+        clock: u64,
+        bytes: &[u8],
+    ) -> Result<Reply, StoreError>
+        ensures effect { IfOk result (λ reply. effect (keeper_parts self.new) reply ≡ heard_effect clock (read bytes.now) (keeper_book self.old) (keeper_parts self.old)) }
+        ensures book { keeper_book self.new ≡ heard_book clock (read bytes.now) (keeper_book self.old) }
+        ensures parts { keeper_parts self.new ≡ heard_parts clock (read bytes.now) (keeper_book self.old) (keeper_parts self.old) }
+        ensures appended { OnOk result (Appended (heard_effect clock (read bytes.now) (keeper_book self.old) (keeper_parts self.old)).records (S.disk store.old) (S.disk store.new)) }
+        ensures disk { OnOk result (OnDisk self.old (S.disk store.old).appended → OnDisk self.new (S.disk store.new).appended) }
+    {
+        let reply = self.receive(clock, bytes);
+        self.append(store, reply.record)?;
+        Ok(reply)
+    }
+
     /// A message comes. Once it is answered, the record of it is in the journal, and synced.
     pub fn serve<S: Store>(
         &mut self,
@@ -82,8 +101,8 @@ impl Keeper {
         ensures logged { OnOk result (Logged (heard_effect clock (read bytes.now) (keeper_book self.old) (keeper_parts self.old)).records (S.disk store.old) (S.disk store.new)) }
         ensures disk { OnOk result (OnDisk self.old (S.disk store.old).appended → OnDisk self.new (S.disk store.new).appended) }
     {
-        let reply = self.receive(clock, bytes);
-        self.log(store, reply.record)?;
+        let reply = self.take(store, clock, bytes)?;
+        store.sync()?;
         Ok(reply)
     }
 }

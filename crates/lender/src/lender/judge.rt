@@ -52,8 +52,7 @@ impl Lender {
         if clock < self.quiet {
             return AskAnswer::Quiet;
         }
-        if self.table.bars(clock, ask) {
-            let by = self.table.barring(clock, ask);
+        if let Some(by) = self.table.barring(clock, ask) {
             return AskAnswer::Barred { by };
         }
         if u64::MAX - self.long < clock || self.table.is_full(clock) {

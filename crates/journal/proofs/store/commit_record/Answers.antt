@@ -1,16 +1,6 @@
-use Rattle.std.proofs.Common.{ℕ, List, refl, subst}
-use Rattle.journal.specs.Records.{recorded, layout}
-use Rattle.journal.specs.Stores.{Committed}
-use Rattle.part.proofs.Writes.{front_is}
+use Rattle.std.proofs.Common.{rules}
+use Rattle.journal.proofs.Saves.{grown_synced}
 use Rattle.journal.proofs.store.commit_record.Goals as goal
 
-pub returns : goal.returns
-returns g c =
-    let u = c.unwrap-size.ensures in
-    let e = rw u at c.encode.ensures in
-    let lay : List ℕ = layout (recorded c.args.part.now c.args.«record».now) in
-    let P : List ℕ → Type 0 = λ q. Committed (g.S.Store.disk c.args.store.now) q (g.S.Store.disk c.commit.new.store) c.commit.result in
-    record {
-      formed = e.formed refl;
-      committed = subst P (front_is c.unwrap-size.result c.encode.new.out lay _ e.wrote.0 e.wrote.1) c.commit.ensures;
-    }
+pub returns-clause-committed : goal.returns-clause-committed
+returns-clause-committed g c = search (rules, grown_synced)

@@ -25,6 +25,13 @@ impl MemoryStore {
         MemoryStore { bytes, synced }
     }
 
+    /// Says whether all that it holds is synced.
+    pub fn is_synced(&self) -> bool
+        ensures { result ≡ true → (disk_of self.now).synced ≡ (disk_of self.now).appended }
+    {
+        self.synced == self.bytes.len()
+    }
+
     /// Makes room for so many bytes more.
     pub fn reserve(&mut self, more: usize) -> Result<(), StoreError>
         ensures room { is_ok result ≡ true → more ≤ room_of self.new }

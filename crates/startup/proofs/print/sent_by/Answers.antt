@@ -4,7 +4,7 @@ use Rattle.lines.specs.Outputs.{printed}
 use Rattle.message.specs.Format.{said, layout}
 use Rattle.part.proofs.Writes.{front_is}
 use Rattle.startup.proofs.Prints.{thrice}
-use Rattle.startup.proofs.print.sent.Goals as goal
+use Rattle.startup.proofs.print.sent_by.Goals as goal
 
 pub returns : goal.returns
 returns c =

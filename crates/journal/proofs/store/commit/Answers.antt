@@ -1,6 +1,0 @@
-use Rattle.std.proofs.Common.{rules}
-use Rattle.journal.proofs.Saves.{grown_synced}
-use Rattle.journal.proofs.store.commit.Goals as goal
-
-pub returns : goal.returns
-returns g c = search (rules, grown_synced)
