@@ -5,7 +5,23 @@ use Rattle.std.proofs.lemmas.Bool.{cond_both, leb-true, leb-false, le-leb, and_p
 use Rattle.clock.specs.Moments.{million, Keeps}
 use Rattle.clock.specs.declared.envelope.Envelope.{Envelope}
 use Rattle.clock.specs.declared.envelope.Point.{Point}
-use Rattle.clock.specs.Envelopes.{ahead_by, ahead_of, behind_by, first_one, admits_one, extend_one, Encloses, KeepsSince, Exact, Extends}
+use Rattle.clock.specs.Envelopes.{ahead_by, ahead_of, behind_by, first_one, admits_one, extend_one, Encloses}
+
+-- no reading of the past is later than p, by the true time or by the clock
+abbrev pub NoneLater : List Point → Point → Type 0
+NoneLater past p = (q : Point) → Memᴰ q past → (q.time ≤ p.time) × (q.shown ≤ p.shown)
+
+-- from each reading of the past on to p the clock keeps within the error
+abbrev pub KeepsSince : (rate grain : ℕ) → List Point → Point → Type 0
+KeepsSince rate grain past p = (q : Point) → Memᴰ q past → Keeps rate grain (p.time - q.time) (p.shown - q.shown)
+
+-- the judgement of p by an envelope is exact, whatever past the envelope stands for
+abbrev pub Exact : (rate grain : ℕ) → Envelope → Point → Bool → Type 0
+Exact rate grain e p r = (past : List Point) → Encloses rate grain past e → NoneLater past p → (r ≡ true) ↔ KeepsSince rate grain past p
+
+-- an envelope made from another stands for one reading more
+abbrev pub Extends : (rate grain : ℕ) → Envelope → Point → Envelope → Type 0
+Extends rate grain e p r = (past : List Point) → Encloses rate grain past e → Encloses rate grain (p ∷ past) r
 
 -- the bounds of the error by sums, where d and s have passed since t and c
 slow_iff : (e g d s t c : ℕ) → (d * e ≤ (s + 1) * g) ↔ ((t + d) * e + c * g ≤ t * e + (c + s) * g + g)
@@ -102,10 +118,3 @@ module _ (rate grain : ℕ) where
             (λ t. of_all (λ q. behind_by rate grain 0 p q ≡ true) p past (of_same _ grain p) (λ q m. behind_through 0 p e.behind q t (of.behind q m)))
             (λ t. of_all (λ q. behind_by rate grain 0 e.behind q ≡ true) p past (of_other _ grain e.behind p t) of.behind);
       }
-
-  -- the same of a value that is known to be the definition's
-  pub exact_of : (e : Envelope) (p : Point) (r : Bool) → r ≡ admits_one rate grain e p → Exact rate grain e p r
-  exact_of e p r is = subst (Exact rate grain e p) (sym is) (exact e p)
-
-  pub extends_of : (e : Envelope) (p : Point) (r : Envelope) → r ≡ extend_one rate grain e p → Extends rate grain e p r
-  extends_of e p r is = subst (Extends rate grain e p) (sym is) (extends e p)

@@ -5,7 +5,7 @@ use mathlib.Core.List.{Memᴰ}
 use Rattle.std.proofs.lemmas.List.{get_or_default, get_or_past, get_or-map, length-map}
 use Rattle.std.proofs.lemmas.Bool.{both_ways, cases_lt}
 use Rattle.clock.specs.Moments.{Moment, Passing, after, Keeps, Pairs, Within, Later}
-use Rattle.clock.specs.Envelopes.{Encloses, NoneLater, admits_one, extend_one, first_one}
+use Rattle.clock.specs.Envelopes.{Encloses, admits_one, extend_one, first_one}
 use Rattle.clock.specs.Hands.{none, point, first_hand, next_point, HandPassed, HandRefused}
 use Rattle.clock.specs.Clocks.{shows, shown_by, moment, passing, present, reading_at, readings, Five, Stands, Passed, Refused, Reason}
 use Rattle.clock.specs.declared.clocks.Clocks.{Clocks}
@@ -14,7 +14,7 @@ use Rattle.clock.specs.declared.clocks.NoPass.TheVariants.{TimeTooHigh, ReadingT
 use Rattle.clock.specs.declared.envelope.Point.{Point}
 use Rattle.clock.specs.declared.hand.Hand.{Hand}
 use Rattle.clock.specs.declared.terms.Terms.{Terms}
-use Rattle.clock.proofs.Enclosing.{exact, first, extends}
+use Rattle.clock.proofs.Enclosing.{NoneLater, exact, first, extends}
 
 -- TABLES OF READINGS
 

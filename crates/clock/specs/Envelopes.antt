@@ -1,7 +1,7 @@
 -- What to remember of a clock's earlier readings so that the next can be judged against all of them: two of them.
-use Rattle.std.specs.Prelude.{◌≡◌, ℕ, ◌+◌, ◌-◌, ◌*◌, ◌≤◌, Bool, true, cond, ◌&&◌, ◌↔◌, List, ◌∷◌, nat_le}
+use Rattle.std.specs.Prelude.{◌≡◌, ℕ, ◌+◌, ◌-◌, ◌*◌, Bool, true, cond, ◌&&◌, List, nat_le}
 use mathlib.Core.List.{Memᴰ}
-use Rattle.clock.specs.Moments.{million, Keeps}
+use Rattle.clock.specs.Moments.{million}
 use Rattle.clock.specs.declared.envelope.Envelope.{Envelope}
 use Rattle.clock.specs.declared.envelope.Point.{Point}
 
@@ -35,19 +35,3 @@ pub record Encloses (rate grain : ℕ) (past : List Point) (e : Envelope) : Type
   pub behind_at : Memᴰ e.behind past
   pub ahead : (q : Point) → Memᴰ q past → ahead_by rate grain 0 e.ahead q ≡ true
   pub behind : (q : Point) → Memᴰ q past → behind_by rate grain 0 e.behind q ≡ true
-
--- no reading of the past is later than p, by the true time or by the clock
-abbrev pub NoneLater : List Point → Point → Type 0
-NoneLater past p = (q : Point) → Memᴰ q past → (q.time ≤ p.time) × (q.shown ≤ p.shown)
-
--- from each reading of the past on to p the clock keeps within the error
-abbrev pub KeepsSince : (rate grain : ℕ) → List Point → Point → Type 0
-KeepsSince rate grain past p = (q : Point) → Memᴰ q past → Keeps rate grain (p.time - q.time) (p.shown - q.shown)
-
--- the judgement of p by an envelope is exact, whatever past the envelope stands for
-abbrev pub Exact : (rate grain : ℕ) → Envelope → Point → Bool → Type 0
-Exact rate grain e p r = (past : List Point) → Encloses rate grain past e → NoneLater past p → (r ≡ true) ↔ KeepsSince rate grain past p
-
--- an envelope made from another stands for one reading more
-abbrev pub Extends : (rate grain : ℕ) → Envelope → Point → Envelope → Type 0
-Extends rate grain e p r = (past : List Point) → Encloses rate grain past e → Encloses rate grain (p ∷ past) r

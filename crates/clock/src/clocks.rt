@@ -83,13 +83,6 @@ impl Clocks {
     {
         self.hands.get(usize::from(i) + 1).map(|hand| hand.shown)
     }
-
-    /// The terms that the clocks are judged by.
-    pub fn terms(&self) -> Terms
-        ensures { result ≡ self.now.terms }
-    {
-        self.terms
-    }
 }
 
 #[cfg(test)]
@@ -160,7 +153,7 @@ mod tests {
         assert_eq!(rt; clocks.borrower(0), Some(10_008));
         assert_eq!(rt; clocks.borrower(3), Some(10_005));
         assert_eq!(rt; clocks.borrower(4), None);
-        assert_eq!(rt; clocks.terms().long, 200);
+        assert_eq!(rt; clocks.terms.long, 200);
         Ok(())
     }
 }

@@ -1,6 +1,6 @@
 // Whether a clock keeps within its error against all its earlier readings, by two of them.
-ghost use Rattle.std.specs.Prelude.{◌≡◌, ℕ, ◌*◌, ◌^◌, ◌<◌, [], ◌∷◌};
-ghost use Rattle.clock.specs.Envelopes.{Encloses, Exact, Extends, admits_one, ahead_by, ahead_of, behind_by, extend_one, first_one};
+ghost use Rattle.std.specs.Prelude.{◌≡◌, ◌*◌, ◌^◌, ◌<◌};
+ghost use Rattle.clock.specs.Envelopes.{admits_one, ahead_by, ahead_of, behind_by, extend_one, first_one};
 
 use crate::terms::Terms;
 
@@ -21,8 +21,7 @@ pub struct Envelope {
 impl Envelope {
     /// The envelope of a first reading.
     pub fn first(p: Point) -> Envelope
-        ensures is { result ≡ first_one p }
-        ensures encloses { (rate grain : ℕ) → Encloses rate grain (p ∷ []) result }
+        ensures { result ≡ first_one p }
     {
         Envelope {
             ahead: p,
@@ -32,16 +31,14 @@ impl Envelope {
 
     /// Whether a clock that shows this next has kept within its error since every earlier reading.
     pub fn admits(&self, terms: &Terms, p: Point) -> bool
-        ensures is { result ≡ admits_one terms.now.rate 1 self.now p }
-        ensures exact { Exact terms.now.rate 1 self.now p result }
+        ensures { result ≡ admits_one terms.now.rate 1 self.now p }
     {
         ahead_by(terms, 1_000_000, p, self.ahead) && behind_by(terms, 1_000_000, p, self.behind)
     }
 
     /// The envelope with one reading more.
     pub fn extend(&self, terms: &Terms, p: Point) -> Envelope
-        ensures is { result ≡ extend_one terms.now.rate 1 self.now p }
-        ensures extends { Extends terms.now.rate 1 self.now p result }
+        ensures { result ≡ extend_one terms.now.rate 1 self.now p }
     {
         Envelope {
             ahead: if ahead_by(terms, 0, p, self.ahead) {
@@ -88,8 +85,7 @@ fn ahead_of(speed: u64, slack: u64, p: Point, q: Point) -> bool
 /// A reading times a small number, with room left for sums.
 fn times(reading: u64, by: u64) -> u128
     requires { by < 2 ^ 32 }
-    ensures is { result ≡ reading * by }
-    ensures small { result < 2 ^ 96 }
+    ensures { result ≡ reading * by }
 {
     u128::from(reading) * u128::from(by)
 }

@@ -293,6 +293,8 @@ fn a_store_fails(rt: HostRuntime) {
         open(Owner::Keeper, &mut store, &mut seen),
         Err(OpenError::Store(StoreError::Failed))
     );
+    assert_eq!(rt; store.truncate(2), Err(StoreError::Failed), "the cut");
+    assert!(rt; store.content().len() == 3);
 }
 
 #[test]

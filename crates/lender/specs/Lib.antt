@@ -1,7 +1,6 @@
 pub mod Numbering
 pub mod Answers
 pub mod Book
-pub mod Room
 pub mod Rules
 pub mod Replies
 pub mod Replay

@@ -1,10 +1,14 @@
+ghost use Rattle.std.specs.Prelude.{◌≡◌, OnOk};
+ghost use Rattle.lines.specs.Outputs.{printed};
 ghost use Rattle.site.specs.Led.{Reached};
+ghost use Rattle.rehearse.specs.Prints.{given_behind, said_behind, telling_behind};
 
 use crate::print;
 use crate::rehearsal::{Rehearsal, Said};
 use anyhow::Result;
 use clock::terms::Terms;
 use lines::output::Output;
+use message::form::Message;
 use message::refusal::Refusal;
 use script::step::parse;
 use site::seen::{Answer, Seen, Shown};
@@ -62,14 +66,14 @@ impl Answers for Stage {
 }
 
 // Prints what is said of a line.
-fn say(said: Said, out: &mut Output) -> Result<(), AllocError> {
+fn say(said: Said, out: &mut Output) -> Result<(), AllocError>
+    ensures { OnOk result (printed out.new ≡ said_behind (printed out.old) said) }
+{
     match said {
         Said::Nothing => Ok(()),
         Said::Anew => print::word(out, "anew"),
         Said::Seen(Seen { told, answer }) => {
-            if let Some(message) = told {
-                print::told(out, message)?;
-            }
+            telling(told, out)?;
             given(answer, out)
         }
         Said::Shown { shown, kept } => match shown {
@@ -80,8 +84,20 @@ fn say(said: Said, out: &mut Output) -> Result<(), AllocError> {
     }
 }
 
+// Prints what a writer is told, if anything.
+fn telling(told: Option<Message>, out: &mut Output) -> Result<(), AllocError>
+    ensures { OnOk result (printed out.new ≡ telling_behind (printed out.old) told) }
+{
+    match told {
+        Some(message) => print::told(out, message),
+        None => Ok(()),
+    }
+}
+
 // Prints the answer to an event.
-fn given(given: Answer, out: &mut Output) -> Result<(), AllocError> {
+fn given(given: Answer, out: &mut Output) -> Result<(), AllocError>
+    ensures { OnOk result (printed out.new ≡ given_behind (printed out.old) given) }
+{
     match given {
         Answer::Given(result) => answer(out, result),
         Answer::Down => print::word(out, "down"),

@@ -1,8 +1,6 @@
-ghost use Rattle.std.specs.Prelude.{◌≡◌, ◌+◌, count_by};
-ghost use Rattle.lease.specs.Leases.{running};
+ghost use Rattle.std.specs.Prelude.{◌≡◌};
 ghost use Rattle.lender.specs.Book.{book};
 ghost use Rattle.lender.specs.Rules.{answer_to, write_answer};
-ghost use Rattle.lender.specs.Room.{Room};
 
 use crate::answer::{AskAnswer, WriteAnswer};
 use crate::lender::Lender;
@@ -46,8 +44,7 @@ impl Lender {
 
     /// What is to come of an ask.
     pub fn judge_ask(&self, clock: u64, ask: &Ask) -> AskAnswer
-        ensures is { result ≡ answer_to clock ask.now (book self.now) }
-        ensures room { Room (clock + self.now.long) (count_by (running clock) (book self.now).leases) result }
+        ensures { result ≡ answer_to clock ask.now (book self.now) }
     {
         if clock < self.quiet {
             return AskAnswer::Quiet;
