@@ -1,6 +1,6 @@
-ghost use Rattle.std.specs.Prelude.{◌≡◌};
+ghost use Rattle.std.specs.Prelude.{◌≡◌, length, IfSome};
 ghost use Rattle.lines.specs.Words.{words};
-ghost use Rattle.keeper.specs.Lines.{heard_of};
+ghost use Rattle.keeper.specs.Lines.{message_in, InFront, heard_of};
 
 use lines::decimal::number;
 use lines::hex::decode;
@@ -17,7 +17,8 @@ pub struct Heard {
 /// What a line says, where it is in one of the forms. The message's bytes are written to `out`; those for which there is no
 /// room are left out, since no message has so many.
 pub fn parse(line: &[u8], out: &mut [u8]) -> Option<Heard>
-    ensures { result ≡ heard_of (words line.now) }
+    ensures heard { result ≡ heard_of (words line.now) }
+    ensures bytes { IfSome result (λ h. InFront (length out.old) h.size out.new (message_in (words line.now))) }
 {
     let (word, more) = split(line);
     let clock = number(word)?;

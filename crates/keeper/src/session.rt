@@ -18,10 +18,12 @@ pub struct Session<S> {
 }
 
 impl<S: Store> Session<S> {
-    ghost use Rattle.std.specs.Prelude.{◌≡◌, false, OnOk};
+    ghost use Rattle.std.specs.Prelude.{◌≡◌, ℕ, List, take, false, OnOk};
     ghost use Rattle.lines.specs.Outputs.{printed};
+    ghost use Rattle.lines.specs.Words.{words};
     ghost use Rattle.lender.specs.OnDisk.{OnDisk};
-    ghost use Rattle.keeper.specs.Sessions.{ReadAt, Received, Acted};
+    ghost use Rattle.keeper.specs.Lines.{message_in, InFront, heard_of};
+    ghost use Rattle.keeper.specs.Sessions.{ReadAt, Received, Acted, Done};
 
     /// It comes up with the first line.
     pub fn new(keeper: Keeper, store: S) -> Session<S>
@@ -39,6 +41,7 @@ impl<S: Store> Session<S> {
     fn read_clock(&mut self, clock: u64) -> Result<(), Refusal>
         ensures kept { OnDisk self.old.keeper (S.disk self.old.store).appended → OnDisk self.new.keeper (S.disk self.new.store).appended }
         ensures read { ReadAt self.old self.new clock result }
+        ensures store { self.new.store ≡ self.old.store }
     {
         if clock < self.last {
             return Err(Refusal::Malformed);
@@ -55,6 +58,7 @@ impl<S: Store> Session<S> {
     fn receive(&mut self, clock: u64, message: &[u8], out: &mut Output) -> Result<()>
         ensures kept { OnOk result (OnDisk self.old.keeper (S.disk self.old.store).appended → OnDisk self.new.keeper (S.disk self.new.store).appended) }
         ensures is { OnOk result (Received self.old.keeper self.new.keeper (S.disk self.old.store) (S.disk self.new.store) clock message.now (printed out.old) (printed out.new)) }
+        ensures rest { (self.new.last ≡ self.old.last) × (self.new.up ≡ self.old.up) }
     {
         let reply = self.keeper.take(&mut self.store, clock, message)?;
         Ok(print::reply(out, &self.keeper, reply)?)
@@ -63,12 +67,27 @@ impl<S: Store> Session<S> {
     // What a line says, with what it wrote to the buffer.
     fn act(&mut self, heard: Heard, buffer: &[u8; ROOM], out: &mut Output) -> Result<()>
         ensures kept { OnOk result (OnDisk self.old.keeper (S.disk self.old.store).appended → OnDisk self.new.keeper (S.disk self.new.store).appended) }
-        ensures is { OnOk result (Acted self.old.keeper self.new.keeper (S.disk self.old.store) (S.disk self.new.store) heard.clock heard.size buffer.now (printed out.old) (printed out.new)) }
+        ensures is { OnOk result ((m : List ℕ) → InFront 1034 heard.size buffer.now m → Acted self.old.keeper self.new.keeper (S.disk self.old.store) (S.disk self.new.store) heard.clock heard.size (take 1034 m) (printed out.old) (printed out.new)) }
+        ensures rest { (self.new.last ≡ self.old.last) × (self.new.up ≡ self.old.up) }
     {
         match heard.size {
             None => Ok(out.text("done\n")?),
             Some(size) => self.receive(heard.clock, &buffer[0..size.min(ROOM)], out),
         }
+    }
+
+    // A line comes.
+    fn line(&mut self, line: &[u8], buffer: &mut [u8; ROOM], out: &mut Output) -> Result<()>
+        ensures kept { OnOk result (OnDisk self.old.keeper (S.disk self.old.store).appended → OnDisk self.new.keeper (S.disk self.new.store).appended) }
+        ensures is { OnOk result (Done self.old self.new (S.disk self.old.store) (S.disk self.new.store) (heard_of (words line.now)) (take 1034 (message_in (words line.now))) (printed out.old) (printed out.new)) }
+    {
+        let Some(heard) = parse(line, buffer) else {
+            return Ok(refused(out, Refusal::Malformed)?);
+        };
+        if let Err(refusal) = self.read_clock(heard.clock) {
+            return Ok(refused(out, refusal)?);
+        }
+        self.act(heard, buffer, out)
     }
 }
 
@@ -84,13 +103,7 @@ impl<S: Store> Answers for Session<S> {
 
     // What the keeper sends and answers is printed.
     fn answer(&mut self, line: &[u8], buffer: &mut [u8; ROOM], out: &mut Output) -> Result<()> {
-        let Some(heard) = parse(line, buffer) else {
-            return Ok(refused(out, Refusal::Malformed)?);
-        };
-        if let Err(refusal) = self.read_clock(heard.clock) {
-            return Ok(refused(out, refusal)?);
-        }
-        self.act(heard, buffer, out)
+        self.line(line, buffer, out)
     }
 
     fn settle(&mut self) -> Result<()> {

@@ -5,8 +5,8 @@ use Rattle.keeper.specs.Lines.{heard_of}
 use Rattle.keeper.proofs.line.parse.Goals as goal
 
 -- a third word is in no form
-pub returns-in_default-more : goal.returns-in_default-more
-returns-in_default-more c =
+pub returns-in_default-more-clause-heard : goal.returns-in_default-more-clause-heard
+returns-in_default-more-clause-heard c =
     let w = c.split.result.0.now in
     let h = c.split-2.result.0.now in
     let first = c.split.ensures.words ∙ ap (λ (o : Option (Bor (List ℕ))). w ∷ rest_words o) c.in-Some.is in

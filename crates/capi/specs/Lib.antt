@@ -1,0 +1,14 @@
+pub mod Owned
+pub mod Handles
+pub mod Buffers
+pub mod Numbers
+pub mod Answers
+pub mod Keepers
+pub mod Opening
+pub mod Hearing
+pub mod Told
+pub mod Exports
+pub mod Words
+pub mod Tablets
+pub mod Asked
+pub mod Hosted

@@ -1,0 +1,17 @@
+// The library that C and plain Rust programs link: keepers and tablets behind handles, and every call on numbers and bytes.
+// The host keeps the journal: it appends and syncs the record of a call before anything of the call leaves.
+#![tactic(auto)]
+
+mod exports;
+mod handle;
+mod keeper;
+mod laws;
+mod loose;
+mod machine;
+mod misuse;
+mod put;
+mod reply;
+mod slot;
+mod tablet;
+mod tell;
+mod what;
