@@ -63,8 +63,7 @@ impl Input {
 
     // What was read and not yet handed out.
     fn left(&self) -> &[u8]
-        ensures is { result.now ≡ rest self.now }
-        ensures len { length result.now + self.now.next ≡ vec_len self.now.held }
+        ensures { result.now ≡ rest self.now }
     {
         &self.held[self.next..]
     }

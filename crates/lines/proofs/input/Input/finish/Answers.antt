@@ -6,5 +6,5 @@ use Rattle.lines.proofs.input.Input.finish.Goals as goal
 
 pub returns-then-is_empty : goal.returns-then-is_empty
 returns-then-is_empty c =
-    let e : rest c.args.self.now ≡ [] = sym c.left.ensures.is ∙ nil_from_length _ (eqb-true _ _ (sym c.if-is_empty.ensures)) in
+    let e : rest c.args.self.now ≡ [] = sym c.left.ensures ∙ nil_from_length _ (eqb-true _ _ (sym c.if-is_empty.ensures)) in
     (e, e)

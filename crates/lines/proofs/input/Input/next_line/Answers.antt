@@ -24,10 +24,10 @@ pub returns-then-branch-eq0 : goal.returns-then-branch-eq0
 returns-then-branch-eq0 g c =
     let t = c.if-take_line.ensures in
     let f = c.in_ok-fill.ensures in
-    handed_last _ _ _ _ _ _ (reading_more _ _ _ _ _ _ _ c.loop.invariant t.found t.after (ap length c.left-seen.ensures.is) f.2) c.finish.ensures
+    handed_last _ _ _ _ _ _ (reading_more _ _ _ _ _ _ _ c.loop.invariant t.found t.after (ap length c.left-seen.ensures) f.2) c.finish.ensures
 
 pub loop-preserved : goal.loop-preserved
 loop-preserved g c =
     let t = c.if-take_line.ensures in
     let f = c.in_ok-fill.ensures in
-    reading_more _ _ _ _ _ _ _ c.loop.invariant t.found t.after (ap length c.left-seen.ensures.is) f.2
+    reading_more _ _ _ _ _ _ _ c.loop.invariant t.found t.after (ap length c.left-seen.ensures) f.2
