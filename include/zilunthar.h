@@ -9,6 +9,8 @@
  *    file to the bytes that are whole records, and syncs it.
  *  - appends the record that a call left, if any, and syncs the file, BEFORE it sends a message of that call, or shows its copy,
  *    or tells a writer. Where that fails it does none of these, and releases the handle: memory is then ahead of the file.
+ *  - may let several messages to a keeper share one sync: their records are appended in their order, then the file is synced, and
+ *    only then may anything of these calls leave.
  *  - does so after every call that is answered by 0 to 9: a call that the rules refuse can have a record, messages or both.
  *  - gives readings of one clock in milliseconds, each at least the one before, within the rate of the terms; and to a keeper
  *    the long and to its tablets the short of terms that fit together (zilunthar_terms).

@@ -1,6 +1,6 @@
 -- What a line of a tablet's input says, by its words.
 -- Assumes nothing.
-use Rattle.std.specs.Prelude.{ℕ, cond, List, [], ◌∷◌, length, Some, None, codes, Option, ◌==◌}
+use Rattle.std.specs.Prelude.{◌≡◌, ℕ, min, take, cond, List, [], ◌∷◌, length, Some, None, codes, Option, ◌==◌}
 use Rattle.std.specs.Option.{option_map}
 use Rattle.std.specs.Str.{bytes_eq}
 use Rattle.lines.specs.Decimals.{number_of}
@@ -50,6 +50,27 @@ act_of (v ∷ f ∷ p ∷ []) = at_place (place_of f p) (two_of v)
 act_of (v ∷ f ∷ p ∷ x ∷ []) = at_place (place_of f p) (λ q. three_of v q x)
 act_of (v ∷ f ∷ p ∷ x ∷ y ∷ ws) = None
 
+-- the bytes that a line says, by the words behind the reading: of its message, or of a write
+abbrev pub bytes_in : List (List ℕ) → List ℕ
+bytes_in [] = []
+bytes_in (h ∷ []) = hex_bytes h
+bytes_in (v ∷ f ∷ []) = []
+bytes_in (v ∷ f ∷ p ∷ []) = []
+bytes_in (v ∷ f ∷ p ∷ x ∷ ws) = hex_bytes x
+
+-- those that a call needs stand in front of the buffer
+abbrev pub CallInFront : (room : ℕ) → Call → (buffer bytes : List ℕ) → Type 0
+CallInFront k (calls.Ask l) b m = Unit {0}
+CallInFront k calls.Show b m = Unit {0}
+CallInFront k calls.Write b m = take (min 1024 k) b ≡ take k m
+CallInFront k calls.Forget b m = Unit {0}
+
+-- they, or their first ones where there is no room for all, stand in front of the buffer
+abbrev pub InFront : (room : ℕ) → Act → (buffer bytes : List ℕ) → Type 0
+InFront k act.Reading b m = Unit {0}
+InFront k (act.Message n) b m = take (min n k) b ≡ take k m
+InFront k (act.Call c p) b m = CallInFront k c b m
+
 abbrev pub said_by : Option ℕ → Option Plain → Option (ℕ × Plain)
 said_by None a = None
 said_by (Some c) None = None
@@ -58,3 +79,8 @@ said_by (Some c) (Some a) = Some (c, a)
 abbrev pub said_of : List (List ℕ) → Option (ℕ × Plain)
 said_of [] = None
 said_of (c ∷ ws) = said_by (number_of c) (act_of ws)
+
+-- by all words of a line
+abbrev pub bytes_said : List (List ℕ) → List ℕ
+bytes_said [] = []
+bytes_said (c ∷ ws) = bytes_in ws

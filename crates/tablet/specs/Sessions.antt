@@ -1,6 +1,6 @@
 -- What a line does to a tablet, and what is printed of it.
 -- Assumes nothing.
-use Rattle.std.specs.Prelude.{◌≡◌, ℕ, min, List, [], ◌++◌, take, replicate, codes, Ok, Err, Result, MatchBool, nat_lt}
+use Rattle.std.specs.Prelude.{◌≡◌, ℕ, List, [], ◌++◌, replicate, codes, Some, None, Ok, Err, Option, Result, MatchBool, MatchResult, nat_lt}
 use Rattle.message.specs.declared.refusal.Refusal.{Refusal}
 use Rattle.message.specs.declared.refusal.Refusal.TheVariants.{Malformed}
 use Rattle.message.specs.Reading.{read}
@@ -9,8 +9,10 @@ use Rattle.borrower.specs.declared.outcome.Outcome.{Outcome}
 use Rattle.borrower.specs.declared.tablet.Tablet.{Tablet}
 use Rattle.borrower.specs.Tablets.{part_at, filed_at, copy_at}
 use Rattle.borrower.specs.Outcomes.{effect, heard_effect, Heard, call_effect, call_part, Stepped}
-use Rattle.tablet.specs.declared.line.Act.{Act}
-use Rattle.tablet.specs.declared.line.Act.TheVariants as act
+use Rattle.borrower.specs.declared.outcome.Call.TheVariants as calls
+use Rattle.startup.specs.Prints.{refused_text}
+use Rattle.tablet.specs.Lines.{Plain}
+use Rattle.tablet.specs.Lines as what
 use Rattle.tablet.specs.declared.session.Session.{Session}
 use Rattle.tablet.specs.Prints.{showing_behind, outcome_behind}
 
@@ -34,8 +36,23 @@ pub record Performed (was is : Tablet) (clock place : ℕ) (c : Call) (bytes pri
   pub left : Stepped was is place (call_part clock was.short c (part_at was place))
   pub printed : printed_is ≡ outcome_behind (showing_behind printed_was c outcome.answer place (copy_at is place)) bytes outcome
 
--- what a line asks for is done, with what it wrote to the buffer
-abbrev pub Acted : (was is : Tablet) (clock : ℕ) → Act → (buffer printed_was printed_is : List ℕ) → Type 0
-Acted was is c act.Reading b p p' = (is ≡ was) × (p' ≡ p ++ codes "done\n")
-Acted was is c (act.Message n) b p p' = Received was is (take (min n 1034) b) p p'
-Acted was is c (act.Call k q) b p p' = Performed was is c q.at k (take 1024 b) p p'
+-- a write writes these bytes
+abbrev pub WritesThese : Call → (bytes these : List ℕ) → Type 0
+WritesThese (calls.Ask k) v m = Unit {0}
+WritesThese calls.Show v m = Unit {0}
+WritesThese calls.Write v m = v ≡ m
+WritesThese calls.Forget v m = Unit {0}
+
+-- what a line asks for is done, with the bytes that it says
+abbrev pub Acted : (was is : Tablet) (clock : ℕ) → Plain → (bytes printed_was printed_is : List ℕ) → Type 0
+Acted was is c what.reading m p p' = (is ≡ was) × (p' ≡ p ++ codes "done\n")
+Acted was is c (what.message n) m p p' = Received was is m p p'
+Acted was is c (what.call k q) m p p' = (v : List ℕ) × WritesThese k v m × Performed was is c q k v p p'
+
+-- A LINE, by its words: one in no form is refused by 1 and changes nothing; else the clock reads what it says, and where that is refused
+-- nothing else is done; else what it says is done. Of a message that is longer than any, its first 1,034 bytes stand for it.
+abbrev pub Done : {S : Type 0} (was is : Session S) → Option (ℕ × Plain) → (bytes printed_was printed_is : List ℕ) → Type 0
+Done was is None m p p' = (is ≡ was) × (p' ≡ p ++ refused_text Malformed)
+Done {S = S} was is (Some (c, a)) m p p' =
+    (mid : Session S) × (r : Result (Unit {0}) Refusal) × ReadAt was mid c r
+    × MatchResult r (λ u. (is.last ≡ mid.last) × Acted mid.tablet is.tablet c a m p p') (λ x. (is ≡ mid) × (p' ≡ p ++ refused_text x))

@@ -1,7 +1,8 @@
-ghost use Rattle.std.specs.Prelude.{◌≡◌, ◌∷◌};
+ghost use Rattle.std.specs.Prelude.{◌≡◌, ◌∷◌, length, IfSome};
 ghost use Rattle.std.specs.Option.{option_map};
+ghost use Rattle.lines.specs.Hex.{hex_bytes};
 ghost use Rattle.lines.specs.Words.{words, rest_words};
-ghost use Rattle.tablet.specs.Lines.{plain, plain_said, message_of, two_of, three_of, act_of, said_of};
+ghost use Rattle.tablet.specs.Lines.{plain, plain_said, message_of, two_of, three_of, act_of, said_of, bytes_in, bytes_said, InFront};
 
 use borrower::outcome::Call;
 use lines::decimal::number;
@@ -45,7 +46,8 @@ fn two(verb: &[u8], place: Place) -> Option<Act>
 
 // A call of three words behind it.
 fn three(verb: &[u8], place: Place, word: &[u8], out: &mut [u8]) -> Option<Act>
-    ensures { option_map plain result ≡ three_of verb.now place.at word.now }
+    ensures says { option_map plain result ≡ three_of verb.now place.at word.now }
+    ensures bytes { IfSome result (λ a. InFront (length out.old) a out.new (hex_bytes word.now)) }
 {
     match verb {
         b"ask" => Some(Act::Call(Call::Ask(kind(word)?), place)),
@@ -59,7 +61,8 @@ fn three(verb: &[u8], place: Place, word: &[u8], out: &mut [u8]) -> Option<Act>
 
 // A call, from its word and the words behind it.
 fn call(verb: &[u8], args: &[u8], out: &mut [u8]) -> Option<Act>
-    ensures { option_map plain result ≡ act_of (verb.now ∷ words args.now) }
+    ensures says { option_map plain result ≡ act_of (verb.now ∷ words args.now) }
+    ensures bytes { IfSome result (λ a. InFront (length out.old) a out.new (bytes_in (verb.now ∷ words args.now))) }
 {
     let (file, more) = split(args);
     let (part, last) = split(more?);
@@ -76,7 +79,8 @@ fn call(verb: &[u8], args: &[u8], out: &mut [u8]) -> Option<Act>
 
 // What is asked for, from the words behind the reading.
 fn behind(rest: Option<&[u8]>, out: &mut [u8]) -> Option<Act>
-    ensures { option_map plain result ≡ act_of (rest_words rest.entry) }
+    ensures says { option_map plain result ≡ act_of (rest_words rest.entry) }
+    ensures bytes { IfSome result (λ a. InFront (length out.old) a out.new (bytes_in (rest_words rest.entry))) }
 {
     let Some(rest) = rest else {
         return Some(Act::Reading);
@@ -91,7 +95,8 @@ fn behind(rest: Option<&[u8]>, out: &mut [u8]) -> Option<Act>
 /// What a line says, where it is in one of the forms. The bytes of a message or of a write are written to `out`; those for
 /// which there is no room are left out, since no message has so many.
 pub fn parse(line: &[u8], out: &mut [u8]) -> Option<Said>
-    ensures { option_map plain_said result ≡ said_of (words line.now) }
+    ensures says { option_map plain_said result ≡ said_of (words line.now) }
+    ensures bytes { IfSome result (λ s. InFront (length out.old) s.act out.new (bytes_said (words line.now))) }
 {
     let (word, more) = split(line);
     let clock = number(word)?;

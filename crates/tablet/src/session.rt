@@ -20,11 +20,13 @@ pub struct Session<S> {
 }
 
 impl<S: Store> Session<S> {
-    ghost use Rattle.std.specs.Prelude.{◌≡◌, take, OnOk};
+    ghost use Rattle.std.specs.Prelude.{◌≡◌, ℕ, List, take, OnOk};
     ghost use Rattle.lines.specs.Outputs.{printed};
+    ghost use Rattle.lines.specs.Words.{words};
     ghost use Rattle.borrower.specs.Tablets.{copy_at};
     ghost use Rattle.tablet.specs.Prints.{showing_behind};
-    ghost use Rattle.tablet.specs.Sessions.{ReadAt, Received, Performed, Acted};
+    ghost use Rattle.tablet.specs.Lines.{plain, said_of, bytes_said, InFront};
+    ghost use Rattle.tablet.specs.Sessions.{ReadAt, Received, Performed, Acted, Done};
 
     /// It is up from the start.
     pub fn new(tablet: Tablet, store: S) -> Session<S>
@@ -50,7 +52,8 @@ impl<S: Store> Session<S> {
 
     // A message comes.
     fn receive(&mut self, message: &[u8], out: &mut Output) -> Result<()>
-        ensures { OnOk result (Received self.old.tablet self.new.tablet message.now (printed out.old) (printed out.new)) }
+        ensures last { self.new.last ≡ self.old.last }
+        ensures is { OnOk result (Received self.old.tablet self.new.tablet message.now (printed out.old) (printed out.new)) }
     {
         let outcome = self.tablet.hear(&mut self.store, message)?;
         Ok(print::outcome(out, outcome, &[0; 1024])?)
@@ -82,7 +85,8 @@ impl<S: Store> Session<S> {
         buffer: &[u8; ROOM],
         out: &mut Output,
     ) -> Result<()>
-        ensures { OnOk result (Performed self.old.tablet self.new.tablet clock place.at call (take 1024 buffer.now) (printed out.old) (printed out.new)) }
+        ensures last { self.new.last ≡ self.old.last }
+        ensures is { OnOk result (Performed self.old.tablet self.new.tablet clock place.at call (take 1024 buffer.now) (printed out.old) (printed out.new)) }
     {
         let outcome = self.tablet.call(&mut self.store, clock, place, call)?;
         self.show(call, place, outcome.answer, out)?;
@@ -91,13 +95,27 @@ impl<S: Store> Session<S> {
 
     // What a line asks for, with what it wrote to the buffer.
     fn act(&mut self, said: Said, buffer: &[u8; ROOM], out: &mut Output) -> Result<()>
-        ensures { OnOk result (Acted self.old.tablet self.new.tablet said.clock said.act buffer.now (printed out.old) (printed out.new)) }
+        ensures is { OnOk result ((m : List ℕ) → InFront 1034 said.act buffer.now m → Acted self.old.tablet self.new.tablet said.clock (plain said.act) (take 1034 m) (printed out.old) (printed out.new)) }
+        ensures last { self.new.last ≡ self.old.last }
     {
         match said.act {
             Act::Reading => Ok(out.text("done\n")?),
             Act::Message(size) => self.receive(&buffer[0..size.min(ROOM)], out),
             Act::Call(call, place) => self.call(said.clock, call, place, buffer, out),
         }
+    }
+
+    // A line comes.
+    fn line(&mut self, line: &[u8], buffer: &mut [u8; ROOM], out: &mut Output) -> Result<()>
+        ensures { OnOk result (Done self.old self.new (said_of (words line.now)) (take 1034 (bytes_said (words line.now))) (printed out.old) (printed out.new)) }
+    {
+        let Some(said) = parse(line, buffer) else {
+            return Ok(refused(out, Refusal::Malformed)?);
+        };
+        if let Err(refusal) = self.read_clock(said.clock) {
+            return Ok(refused(out, refusal)?);
+        }
+        self.act(said, buffer, out)
     }
 }
 
@@ -110,13 +128,7 @@ impl<S: Store> Answers for Session<S> {
 
     // What the tablet sends, shows, is told and answers is printed.
     fn answer(&mut self, line: &[u8], buffer: &mut [u8; ROOM], out: &mut Output) -> Result<()> {
-        let Some(said) = parse(line, buffer) else {
-            return Ok(refused(out, Refusal::Malformed)?);
-        };
-        if let Err(refusal) = self.read_clock(said.clock) {
-            return Ok(refused(out, refusal)?);
-        }
-        self.act(said, buffer, out)
+        self.line(line, buffer, out)
     }
 
     fn settle(&mut self) -> Result<()> {

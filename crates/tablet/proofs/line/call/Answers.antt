@@ -5,8 +5,8 @@ use Rattle.tablet.specs.Lines.{act_of}
 use Rattle.tablet.proofs.line.call.Goals as goal
 
 -- a fourth word behind the call is in no form
-pub returns-in_default-more : goal.returns-in_default-more
-returns-in_default-more c =
+pub returns-in_default-more-clause-says : goal.returns-in_default-more-clause-says
+returns-in_default-more-clause-says c =
     let v = c.args.verb.now in
     let f = c.split.result.0.now in
     let p = c.split-2.result.0.now in

@@ -1,15 +1,12 @@
-use Rattle.std.proofs.Common.{ℕ, take, Ok, Err, Option, Result, OnOk, refl, ap, subst}
+use Rattle.std.proofs.Common.{ℕ, take, Ok, Err, Option, refl, ap, subst}
 use Rattle.journal.specs.Stores.{Disk}
+use Rattle.startup.proofs.Ends.{where_done}
 use Rattle.lines.specs.Outputs.{printed}
 use Rattle.lines.specs.Words.{words}
 use Rattle.keeper.specs.declared.line.Heard.{Heard}
 use Rattle.keeper.specs.Lines.{message_in, InFront}
 use Rattle.keeper.specs.Sessions.{Acted, Done}
 use Rattle.keeper.proofs.session.Session.line.Goals as goal
-
-where_done : {T E : Type 0} (r : Result T E) (A B : Type 0) → OnOk r A → (A → B) → OnOk r B
-where_done (Ok u) A B a f = f a
-where_done (Err e) A B a f = tt
 
 pub returns-in-Err-clause-is : goal.returns-in-Err-clause-is
 returns-in-Err-clause-is g c =

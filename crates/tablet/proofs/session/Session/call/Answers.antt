@@ -4,8 +4,8 @@ use Rattle.lines.specs.Outputs.{printed}
 use Rattle.tablet.specs.Prints.{showing_behind, outcome_behind}
 use Rattle.tablet.proofs.session.Session.call.Goals as goal
 
-pub returns : goal.returns
-returns g c =
+pub returns-clause-is : goal.returns-clause-is
+returns-clause-is g c =
     let o = c.in_ok-outcome.outcome in
     let q = c.args.place.at in
     let bytes = take 1024 c.args.buffer.now in
