@@ -1,10 +1,11 @@
 ghost use Rattle.std.specs.Prelude.{◌≡◌, ◌≢◌, ◌≤◌, [], length, MatchOption};
 ghost use Rattle.message.specs.Reading.{read};
+ghost use Rattle.journal.specs.Records.{bytes_of};
 ghost use Rattle.borrower.specs.declared.outcome.Call.TheVariants.{Show};
 ghost use Rattle.borrower.specs.Tablets.{part_at, filed_at, copy_at};
-ghost use Rattle.borrower.specs.Outcomes.{effect, heard_effect, Heard, call_part, Stepped};
+ghost use Rattle.borrower.specs.Outcomes.{effect, recorded_by, heard_effect, Heard, call_part, Stepped};
 ghost use Rattle.capi.specs.Answers.{TabletSays};
-ghost use Rattle.capi.specs.Buffers.{copied};
+ghost use Rattle.capi.specs.Buffers.{Wrote, copied};
 ghost use Rattle.capi.specs.Opening.{TabletFrom};
 ghost use Rattle.capi.specs.Tablets.{effect_on};
 
@@ -13,7 +14,7 @@ use crate::put::{Sent, put_message, put_record};
 use crate::reply::{Answer, Reply, Word, number_of, word_in};
 use borrower::outcome::{Call, Outcome};
 use borrower::tablet::Tablet;
-use journal::record::Owner;
+use journal::record::{Owner, Record};
 use journal::replay::replay;
 use message::refusal::Refusal;
 use part::place::Place;
@@ -39,12 +40,23 @@ pub fn whole_part(bytes: &[u8]) -> Option<&[u8; 1024]>
     bytes.first_chunk()
 }
 
+// Writes the record of a tablet, if there is one. It carries no part: the zeros that stand beside it are made only where there is one.
+fn put_numbers(record: Option<Record>, out: &mut [u8]) -> usize
+    requires { 1032 ≤ length out.old }
+    ensures { Wrote (bytes_of (recorded_by «record»)) result out.old out.new }
+{
+    match record {
+        None => 0,
+        Some(record) => put_record(Some(record), &[0; 1024], out),
+    }
+}
+
 // What the host has of an outcome, with these bytes of a write.
 fn answer_of(outcome: Outcome, bytes: &[u8; 1024], filed: &mut [u8], sent: &mut [u8]) -> Answer
     requires { (1032 ≤ length filed.old) × (1033 ≤ length sent.old) }
     ensures { TabletSays (effect bytes.now outcome) result filed.old filed.new sent.old sent.new }
 {
-    let record_size = put_record(outcome.record, &[0; 1024], filed);
+    let record_size = put_numbers(outcome.record, filed);
     let Sent { count, size } = put_message(outcome.send, bytes, sent);
     Answer {
         number: number_of(outcome.answer),
@@ -110,7 +122,7 @@ pub fn show(
     ensures copy { copy.new ≡ copied (effect_on tablet.old clock place.at Show []).answer (copy_at tablet.new place.at) copy.old }
 {
     let outcome = tablet.show(clock, place);
-    let record_size = put_record(outcome.record, &[0; 1024], filed);
+    let record_size = put_numbers(outcome.record, filed);
     put_copy(tablet, place, outcome.answer, copy);
     Answer {
         number: number_of(outcome.answer),
