@@ -92,14 +92,20 @@ impl<S: Store> Session<S> {
 }
 
 impl<S: Store> Answers for Session<S> {
-    ghost use Rattle.std.specs.Prelude.{◌≡◌};
+    ghost use Rattle.std.specs.Prelude.{◌≡◌, take};
+    ghost use Rattle.lines.specs.Words.{words};
     ghost use Rattle.lender.specs.OnDisk.{OnDisk};
+    ghost use Rattle.keeper.specs.Lines.{message_in, heard_of};
+    ghost use Rattle.keeper.specs.Sessions.{Done};
 
     // memory is what the journal replays to
     ghost keeps = { λ s. OnDisk s.keeper (S.disk s.store).appended };
 
     // all of the journal is on the disk
     ghost settled = { λ s. (S.disk s.store).synced ≡ (S.disk s.store).appended };
+
+    // from its words to what is printed
+    ghost does = { λ was line p q is. Done was is (S.disk was.store) (S.disk is.store) (heard_of (words line)) (take 1034 (message_in (words line))) p q };
 
     // What the keeper sends and answers is printed.
     fn answer(&mut self, line: &[u8], buffer: &mut [u8; ROOM], out: &mut Output) -> Result<()> {

@@ -1,2 +1,3 @@
 pub mod Played
 pub mod Prints
+pub mod Lines

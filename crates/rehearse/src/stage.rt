@@ -1,6 +1,7 @@
 ghost use Rattle.std.specs.Prelude.{◌≡◌, OnOk};
 ghost use Rattle.lines.specs.Outputs.{printed};
 ghost use Rattle.site.specs.Led.{Reached};
+ghost use Rattle.rehearse.specs.Lines.{LineDone};
 ghost use Rattle.rehearse.specs.Prints.{given_behind, said_behind, telling_behind};
 
 use crate::print;
@@ -49,14 +50,17 @@ impl Answers for Stage {
     // nothing of it is on a disk
     ghost settled = { λ s. Unit {0} };
 
+    // what the line says is played, and what is said of that is printed, behind the messages that it sent
+    ghost does = { λ was line p q is. LineDone was.rehearsal is.rehearsal line q };
+
     fn answer(&mut self, line: &[u8], _buffer: &mut [u8; ROOM], out: &mut Output) -> Result<()> {
         let before = self.rehearsal.site.sent();
         let step = parse(line);
         let said = self.rehearsal.play(step)?;
-        if said == Said::Anew {
-            return Ok(print::word(out, "anew")?);
+        // where all begins anew, what was sent before is gone
+        if said != Said::Anew {
+            self.sent_since(before, out)?;
         }
-        self.sent_since(before, out)?;
         Ok(say(said, out)?)
     }
 

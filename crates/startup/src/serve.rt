@@ -1,6 +1,8 @@
-ghost use Rattle.std.specs.Prelude.{◌≡◌, [], is_ok, OnOk, if◌then◌else◌};
+ghost use Rattle.std.specs.Prelude.{◌≡◌, ◌≤◌, ℕ, List, [], length, is_ok, OnOk, OnErr, if◌then◌else◌};
+ghost use Rattle.std.specs.Io.KnownBytes.{Appends};
 ghost use Rattle.std.specs.Process.{exit_status};
 ghost use Rattle.lines.specs.Outputs.{printed};
+ghost use Rattle.startup.specs.Serving.{HandedOn};
 
 use crate::print::refused;
 use anyhow::Result;
@@ -24,10 +26,14 @@ pub trait Answers {
     // all that its answers so far depend on is on the disk: they may leave
     ghost settled: { Self → Type 0 };
 
+    // what a line does: from what answered it and what was printed before, to what is printed and what answers the next line
+    ghost does: { Self → (line printed_was printed_is : List ℕ) → Self → Type 0 };
+
     /// A line comes: what it says is done, and the answer is printed. It doesn't leave yet. Bytes that the line says may be put into
     /// the buffer, which each line uses again.
     fn answer(&mut self, line: &[u8], buffer: &mut [u8; ROOM], out: &mut Output) -> Result<()>
-        ensures { OnOk result (keeps self.old → keeps self.new) };
+        ensures kept { OnOk result (keeps self.old → keeps self.new) }
+        ensures done { OnOk result (does self.old line.now (printed out.old) (printed out.new) self.new) };
 
     /// Brings to the disk what the answers so far depend on.
     fn settle(&mut self) -> Result<()>
@@ -35,7 +41,8 @@ pub trait Answers {
         ensures safe { OnOk result (settled self.new) };
 }
 
-// Hands on a line, or refuses one that the end of the input cut short. Nothing is printed of a line that fails.
+// Hands on a line, or refuses one that the end of the input cut short, which does nothing. No more is printed than before of a line that
+// fails.
 fn hand_on<A: Answers>(
     to: &mut A,
     line: Line,
@@ -43,7 +50,9 @@ fn hand_on<A: Answers>(
     buffer: &mut [u8; ROOM],
     out: &mut Output,
 ) -> Result<()>
-    ensures { OnOk result (A.keeps to.old → A.keeps to.new) }
+    ensures kept { OnOk result (A.keeps to.old → A.keeps to.new) }
+    ensures done { OnOk result (HandedOn A.does line to.old to.new text.now (printed out.old) (printed out.new)) }
+    ensures failed { OnErr result (length (printed out.new) ≤ length (printed out.old)) }
 {
     let before = out.len();
     let done = match line {
@@ -59,7 +68,8 @@ fn hand_on<A: Answers>(
 // Lets the answers leave. Nothing else in a program writes what was printed, so none leaves before what it depends on is safe.
 fn leave<A: Answers, W: Write>(to: &A, out: &mut Output, stdout: &mut W) -> Result<()>
     requires { A.settled to.now }
-    ensures { OnOk result (printed out.new ≡ []) }
+    ensures gone { OnOk result (Appends (W.contents stdout.old) (W.contents stdout.new) (printed out.old)) }
+    ensures left { OnOk result (printed out.new ≡ []) }
 {
     stdout.write_all(out.as_slice())?;
     out.clear();

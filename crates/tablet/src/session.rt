@@ -120,11 +120,19 @@ impl<S: Store> Session<S> {
 }
 
 impl<S: Store> Answers for Session<S> {
+    ghost use Rattle.std.specs.Prelude.{take};
+    ghost use Rattle.lines.specs.Words.{words};
+    ghost use Rattle.tablet.specs.Lines.{said_of, bytes_said};
+    ghost use Rattle.tablet.specs.Sessions.{Done};
+
     // what a tablet keeps from one line to the next is said by its own contracts
     ghost keeps = { λ s. Unit {0} };
 
     // each of its records is synced before the line is answered
     ghost settled = { λ s. Unit {0} };
+
+    // from its words to what is printed
+    ghost does = { λ was line p q is. Done was is (said_of (words line)) (take 1034 (bytes_said (words line))) p q };
 
     // What the tablet sends, shows, is told and answers is printed.
     fn answer(&mut self, line: &[u8], buffer: &mut [u8; ROOM], out: &mut Output) -> Result<()> {
