@@ -1,5 +1,5 @@
 ghost use Rattle.std.specs.Prelude.{◌≡◌, true, false, [], ◌∷◌, ◌++◌, is_ok, IfOk, IsOkUnless, MatchOption, if◌then◌else◌, count_by, filter, nat_le, nat_lt};
-ghost use Rattle.std.specs.List.{list_any};
+ghost use Rattle.std.specs.List.{list_any, position};
 ghost use Rattle.lease.specs.Leases.{running, barring_ask, allowing_write, staying_after};
 ghost use Rattle.lease.specs.Tables.{leases, marks_of};
 
@@ -38,23 +38,24 @@ impl Table {
         Ok(Table { leases })
     }
 
-    // Whether some lease stands in the way of a loan.
-    fn bars(&self, clock: u64, ask: &Ask) -> bool
-        ensures { result ≡ list_any (barring_ask clock ask.now) (leases self.now) }
+    // The place of the first lease that stands in the way of a loan.
+    fn first_barring(&self, clock: u64, ask: &Ask) -> Option<usize>
+        ensures { result ≡ position (barring_ask clock ask.now) (leases self.now) }
     {
-        self.leases.iter().any(|l| l.bars(clock, ask))
+        self.leases.iter().position(|l| l.bars(clock, ask))
     }
 
     /// Which borrowers have a lease that stands in the way of a loan; none where no lease does.
-    // The reading stays beside the ask: the clock is the keeper's, and the ask came. Two passes stay: one pass that looks for the first
-    // such lease took 1.05 nanoseconds a lease, and each of these takes 0.42; most asks are not barred, and need the first alone.
+    // The reading stays beside the ask: the clock is the keeper's, and the ask came. The leases before the first that bars mark nobody,
+    // so that none is looked at twice.
+    #[tactic(auto, using(crate::proofs::Marks::at_none))]
     pub fn barring(&self, clock: u64, ask: &Ask) -> Option<[bool; 32]>
         ensures { MatchOption result (list_any (barring_ask clock ask.now) (leases self.now) ≡ false) (λ by. (list_any (barring_ask clock ask.now) (leases self.now) ≡ true) × (by ≡ marks_of (barring_ask clock ask.now) (leases self.now))) }
     {
-        if !self.bars(clock, ask) {
+        let Some(first) = self.first_barring(clock, ask) else {
             return None;
-        }
-        Some(marks(&self.leases, clock, ask))
+        };
+        Some(marks(&self.leases[first..], clock, ask))
     }
 
     /// Whether a borrower may write a part.
