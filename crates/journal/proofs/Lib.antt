@@ -4,3 +4,4 @@ pub mod Journals
 pub mod Readers
 pub mod Saves
 pub mod Turns
+pub mod Told

@@ -11,6 +11,7 @@ use std::fmt;
 pub mod failing;
 pub mod file;
 pub mod memory;
+pub mod told;
 
 /// Why a store did not do what it was asked.
 #[derive(Clone, Copy, PartialEq, Eq, Debug)]
