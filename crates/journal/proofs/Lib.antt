@@ -5,3 +5,5 @@ pub mod Readers
 pub mod Saves
 pub mod Turns
 pub mod Told
+pub mod Through
+pub mod Blocks

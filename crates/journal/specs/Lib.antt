@@ -2,6 +2,8 @@ pub mod Records
 pub mod Laws
 pub mod Reading
 pub mod Stores
+pub mod Sources
+pub mod Blocks
 pub mod Memory
 pub mod Told
 pub mod Replays

@@ -1,14 +1,13 @@
 -- What a journal makes of a state that its records are applied to, one after another.
 -- Assumes nothing.
-use Rattle.std.specs.Prelude.{◌≡◌, ℕ, ◌⊎◌, List, [], ◌∷◌, codes, Ok, Err, Result}
+use Rattle.std.specs.Prelude.{◌≡◌, ℕ, List, [], ◌∷◌, ◌++◌, codes, Ok, Err, Result}
 use Rattle.message.specs.declared.form.Malformed.{Malformed}
 use Rattle.journal.specs.declared.record.Owner.{Owner}
 use Rattle.journal.specs.declared.record.Owner.TheVariants as owner
 use Rattle.journal.specs.declared.replay.OpenError.{OpenError}
 use Rattle.journal.specs.declared.replay.OpenError.TheVariants as why
-use Rattle.journal.specs.Records.{Rec, bytes_of, Torn, records_of, rest_of}
+use Rattle.journal.specs.Records.{Rec, records_of}
 use Rattle.journal.specs.Reading.{Cut, Refused}
-use Rattle.journal.specs.Stores.{Disk}
 
 -- from the state s through these records, in their order, to the state t, where P says what one record makes of a state
 abbrev pub Through : {S : Type 0} → (P : S → Rec → S → Type 0) → S → List Rec → S → Type 0
@@ -20,16 +19,14 @@ abbrev pub Replayed : {S : Type 0} → (P : S → Rec → S → Type 0) → Owne
 Replayed P o bs s t (Ok n) = Cut o bs n × Through P s (records_of o bs) t
 Replayed P o bs s t (Err e) = Refused o bs × (s ≡ t)
 
--- what opening leaves of a file and of the state: the whole records and no more, all of them on disk and applied;
--- of a journal that is refused all as it was; where the store fails the file cut or not, and the records applied;
+-- what was read of a file behind what was read before is what its records are of: where the whole ones end, and that the state went
+-- through them; or that it is refused, and nothing more was read. Where the file can't be read on, nothing is known of the state;
 -- for want of memory it never fails
-abbrev pub Opened : {S T : Type 0} → (P : S → Rec → S → Type 0) → Owner → (was is : Disk) → (s t : S) → Result T OpenError → Type 0
-Opened P o was is s t (Ok x) =
-    (is.appended ≡ bytes_of (records_of o was.appended)) × (is.synced ≡ is.appended) × Torn o (rest_of o was.appended) × Through P s (records_of o was.appended) t
-Opened P o was is s t (Err why.NoMemory) = ⊥
-Opened P o was is s t (Err (why.Malformed p)) = (p ≡ o) × Refused o was.appended × (is.appended ≡ was.appended) × (is.synced ≡ was.synced) × (s ≡ t)
-Opened P o was is s t (Err (why.Store e)) =
-    ((is.appended ≡ was.appended) ⊎ (is.appended ≡ bytes_of (records_of o was.appended))) × Torn o (rest_of o was.appended) × Through P s (records_of o was.appended) t
+abbrev pub ReadThrough : {S : Type 0} → (P : S → Rec → S → Type 0) → Owner → (was is : List ℕ) → (s t : S) → Result ℕ OpenError → Type 0
+ReadThrough P o was is s t (Ok n) = (bs : List ℕ) × (is ≡ was ++ bs) × Cut o bs n × Through P s (records_of o bs) t
+ReadThrough P o was is s t (Err why.NoMemory) = ⊥
+ReadThrough P o was is s t (Err (why.Malformed p)) = (p ≡ o) × (bs : List ℕ) × (is ≡ was ++ bs) × Refused o bs
+ReadThrough P o was is s t (Err (why.Store e)) = Unit {0}
 
 -- what is printed where no journal was opened
 abbrev pub unopened_text : OpenError → List ℕ

@@ -1,6 +1,6 @@
 -- What the calls on a store leave of the file that it stands for.
 -- Assumes nothing.
-use Rattle.std.specs.Prelude.{◌≡◌, ℕ, ◌⊎◌, List, ◌++◌, take, Ok, Err, Result}
+use Rattle.std.specs.Prelude.{◌≡◌, ℕ, List, ◌++◌, take, Ok, Err, Result}
 
 -- a file: what was appended to it, and what is known to be on disk, so that after a stop it has these bytes
 -- and some first part of the rest
@@ -22,13 +22,3 @@ Saved was is (Err e) = (is.appended ≡ was.appended) × (is.synced ≡ was.sync
 abbrev pub Committed : {T E : Type 0} → (was : Disk) → (more : List ℕ) → (is : Disk) → Result T E → Type 0
 Committed was more is (Ok x) = (is.appended ≡ was.appended ++ more) × (is.synced ≡ is.appended)
 Committed was more is (Err e) = (k : ℕ) × (is.appended ≡ was.appended ++ take k more) × (is.synced ≡ was.synced)
-
--- the file was cut to so many of its first bytes, and so was what is known to be on disk, or, where that failed, neither
-abbrev pub Shortened : {T E : Type 0} → (was : Disk) → (size : ℕ) → (is : Disk) → Result T E → Type 0
-Shortened was n is (Ok x) = (is.appended ≡ take n was.appended) × (is.synced ≡ take n was.synced)
-Shortened was n is (Err e) = (is.appended ≡ was.appended) × (is.synced ≡ was.synced)
-
--- the file was to be cut and synced: cut and all of it on disk, or, where that failed, cut or not
-abbrev pub ShortenedSafe : {T E : Type 0} → (was : Disk) → (size : ℕ) → (is : Disk) → Result T E → Type 0
-ShortenedSafe was n is (Ok x) = (is.appended ≡ take n was.appended) × (is.synced ≡ is.appended)
-ShortenedSafe was n is (Err e) = (is.appended ≡ was.appended) ⊎ (is.appended ≡ take n was.appended)

@@ -2,11 +2,13 @@
 // says, and the stores that journals are kept in.
 #![tactic(auto)]
 
+mod block;
 pub mod laws;
 pub mod log;
 pub mod read;
 pub mod record;
 pub mod replay;
+pub mod source;
 pub mod store;
 #[cfg(test)]
 mod tests;

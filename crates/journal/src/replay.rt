@@ -1,13 +1,14 @@
-ghost use Rattle.std.specs.Prelude.{◌≡◌, ◌≤◌, length};
+ghost use Rattle.std.specs.Prelude.{◌≡◌, ◌≤◌, length, OnOk};
 ghost use Rattle.journal.specs.Records.{Rec, recorded, WellFormed};
 ghost use Rattle.journal.specs.Reading.{ending};
-ghost use Rattle.journal.specs.Replays.{Replayed, Opened};
-ghost use Rattle.journal.specs.Stores.{ShortenedSafe};
+ghost use Rattle.journal.specs.Replays.{Replayed, ReadThrough};
 ghost use Rattle.journal.specs.declared.replay.OpenError.TheVariants.{NoMemory, Store as NoStore};
 
+use crate::block::Block;
 use crate::read::{next_record, whole};
 use crate::record::{Owner, Record};
-use crate::store::{Store, StoreError};
+use crate::source::Source;
+use crate::store::StoreError;
 use message::decode::carried_part;
 use message::form::Malformed;
 use std::alloc::AllocError;
@@ -101,24 +102,31 @@ pub fn replay<R: Journaled>(owner: Owner, bytes: &[u8], into: &mut R) -> Result<
     Ok(size)
 }
 
-// Cuts the file to so many of its first bytes, and syncs.
-fn shorten<S: Store>(store: &mut S, size: usize) -> Result<(), StoreError>
-    ensures { ShortenedSafe (S.disk store.old) size (S.disk store.new) result }
-{
-    store.truncate(size)?;
-    store.sync()
-}
-
-/// Opens a journal: applies its whole records and cuts it after them, on the disk too. One that is refused is left as it
-/// is, and nothing is applied.
-pub fn open<S: Store, R: Journaled>(
+/// Reads a journal to its end, and applies its whole records as they come: how many bytes they have. There the journal is to be cut
+/// before anything is appended. Where it is refused, the records before are applied all the same: the state is of no use then.
+pub fn read_through<S: Source, R: Journaled>(
     owner: Owner,
-    store: &mut S,
+    from: &mut S,
     into: &mut R,
-) -> Result<(), OpenError>
-    ensures { Opened R.becomes owner (S.disk store.old) (S.disk store.new) into.old into.new result }
+) -> Result<usize, OpenError>
+    ensures through { ReadThrough R.becomes owner (S.had from.old) (S.had from.new) into.old into.new result }
+    ensures ended { OnOk result (S.ended from.new) }
 {
-    let size = replay(owner, store.content(), into).map_err(|_| OpenError::Malformed(owner))?;
-    shorten(store, size)?;
-    Ok(())
+    let mut block = Block::new();
+    let mut size: usize = 0;
+    // A count stays: a loop without one would ask for a handle that may wait.
+    for _ in 0..u64::MAX {
+        if block.fill(from)? == 0 {
+            return Ok(size);
+        }
+        let Ok(done) = replay(owner, block.left(), into) else {
+            return Err(OpenError::Malformed(owner));
+        };
+        block.pass(done);
+        let Some(end) = size.checked_add(done) else {
+            break;
+        };
+        size = end;
+    }
+    Err(OpenError::Store(StoreError::Failed))
 }

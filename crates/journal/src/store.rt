@@ -1,7 +1,7 @@
 ghost use Rattle.std.specs.Prelude.{◌≡◌, Some, codes};
 ghost use Rattle.journal.specs.declared.store.StoreError.TheVariants.{NoMemory};
 ghost use Rattle.journal.specs.Records.{recorded, layout, WellFormed};
-ghost use Rattle.journal.specs.Stores.{Disk, Grown, Saved, Committed, Shortened};
+ghost use Rattle.journal.specs.Stores.{Disk, Grown, Saved, Committed};
 
 use crate::record::{Record, encode};
 use std::alloc::AllocError;
@@ -46,10 +46,6 @@ pub trait Store {
     // what the file holds, and what is known to be on disk
     ghost disk: { Self → Disk };
 
-    /// What the file holds.
-    fn content(&self) -> &[u8]
-        ensures { result.now ≡ (disk self.now).appended };
-
     /// Appends bytes to the file. Where it fails, some first part of them may be there.
     fn append(&mut self, bytes: &[u8]) -> Result<(), StoreError>
         ensures { Grown (disk self.old) bytes.now (disk self.new) result };
@@ -57,10 +53,6 @@ pub trait Store {
     /// Brings all that the file holds to the disk.
     fn sync(&mut self) -> Result<(), StoreError>
         ensures { Saved (disk self.old) (disk self.new) result };
-
-    /// Cuts the file to so many of its first bytes.
-    fn truncate(&mut self, size: usize) -> Result<(), StoreError>
-        ensures { Shortened (disk self.old) size (disk self.new) result };
 }
 
 /// Appends a record, with the bytes of `part` where a part is applied. It is not synced: nothing that depends on it may leave yet.

@@ -1,9 +1,14 @@
 // Journals that a stop cut short at each byte, with each kind of bad record, long ones, and stores that fail.
+ghost use Rattle.std.specs.Prelude.{◌≡◌, vec_len};
+ghost use Rattle.journal.specs.Memory.{read_of};
+
 use crate::read::{kept, whole};
 use crate::record::{Owner, Record, encode};
-use crate::replay::{Journaled, OpenError, open, replay};
+use crate::replay::{Journaled, OpenError, read_through, replay};
+use crate::source::Source;
+use crate::source::file::FileSource;
+use crate::source::memory::MemorySource;
 use crate::store::failing::FailingStore;
-use crate::store::file::FileStore;
 use crate::store::memory::MemoryStore;
 use crate::store::{Store, StoreError, commit_record};
 use part::head::Head;
@@ -242,33 +247,73 @@ fn a_thousand_records_are_replayed(rt: HostRuntime) -> Result<(), Fail> {
     Ok(())
 }
 
+// A file in memory, to be read, with what a store has.
+fn source(heap: Global, store: &MemoryStore) -> Result<MemorySource, AllocError> {
+    Ok(MemorySource::of(store.content().to_vec(heap)?))
+}
+
 #[test]
-fn opening_cuts_and_applies(rt: HostRuntime) -> Result<(), Fail> {
+fn a_journal_is_read_in_blocks(rt: HostRuntime) -> Result<(), Fail> {
     let mut store = MemoryStore::new(rt.alloc());
-    fill(&mut store, 3)?;
+    fill(&mut store, 1000)?;
     let size = store.content().len();
     store.append(&[8, 0, 0])?;
+    let mut from = source(rt.alloc(), &store)?;
     let mut seen = NONE;
-    open(Owner::Keeper, &mut store, &mut seen)?;
-    assert!(rt; seen.in_order && seen.next == 3);
-    assert!(rt; store.content().len() == size, "the torn end is gone");
-    let whole = kept(Owner::Keeper, store.content()).map_err(|_| "refused")?;
+    assert_eq!(rt; read_through(Owner::Keeper, &mut from, &mut seen), Ok(size));
+    assert!(rt; seen.in_order && seen.next == 1000 && seen.parts == 500);
+    let cut = from.cut(size);
+    assert!(rt; cut.content().len() == size, "the torn end is gone");
+    let whole = kept(Owner::Keeper, cut.content()).map_err(|_| "refused")?;
     assert!(rt; whole.len() == size);
     Ok(())
 }
 
 #[test]
-fn a_refused_journal_changes_nothing(rt: HostRuntime) -> Result<(), Fail> {
+fn a_bad_record_far_on_is_refused(rt: HostRuntime) -> Result<(), Fail> {
     let mut store = MemoryStore::new(rt.alloc());
-    fill(&mut store, 3)?;
+    fill(&mut store, 200)?;
     store.append(&[7])?;
-    let size = store.content().len();
+    let mut from = source(rt.alloc(), &store)?;
     let mut seen = NONE;
     assert_eq!(rt;
-        open(Owner::Keeper, &mut store, &mut seen),
+        read_through(Owner::Keeper, &mut from, &mut seen),
         Err(OpenError::Malformed(Owner::Keeper))
     );
-    assert!(rt; seen.next == 0 && store.content().len() == size);
+    Ok(())
+}
+
+// A file that can be read so many times.
+#[derive(Drop)]
+struct FailingSource {
+    from: MemorySource,
+    left: usize,
+}
+
+impl Source for FailingSource {
+    ghost had = { λ s. read_of s.from };
+
+    ghost ended = { λ s. s.from.at ≡ vec_len s.from.bytes };
+
+    fn read(&mut self, block: &mut [u8]) -> Result<usize, StoreError> {
+        self.left = self.left.checked_sub(1).ok_or(StoreError::Failed)?;
+        self.from.read(block)
+    }
+}
+
+#[test]
+fn a_file_that_cannot_be_read_on(rt: HostRuntime) -> Result<(), Fail> {
+    let mut store = MemoryStore::new(rt.alloc());
+    fill(&mut store, 200)?;
+    let mut from = FailingSource {
+        from: source(rt.alloc(), &store)?,
+        left: 1,
+    };
+    let mut seen = NONE;
+    assert_eq!(rt;
+        read_through(Owner::Keeper, &mut from, &mut seen),
+        Err(OpenError::Store(StoreError::Failed))
+    );
     Ok(())
 }
 
@@ -288,32 +333,37 @@ fn a_store_fails(rt: HostRuntime) {
         "the append"
     );
     assert!(rt; store.content().len() == 3);
+}
+
+// What a file has, and what a keeper's journal in it says.
+fn opened(rt: &HostRuntime, path: &str) -> Result<(FileSource, Seen, usize), Fail> {
+    let mut from = FileSource::open(rt, path)?;
     let mut seen = NONE;
-    assert_eq!(rt;
-        open(Owner::Keeper, &mut store, &mut seen),
-        Err(OpenError::Store(StoreError::Failed))
-    );
-    assert_eq!(rt; store.truncate(2), Err(StoreError::Failed), "the cut");
-    assert!(rt; store.content().len() == 3);
+    let size = read_through(Owner::Keeper, &mut from, &mut seen)?;
+    Ok((from, seen, size))
 }
 
 #[test]
 fn a_file_is_read_back(rt: HostRuntime) -> Result<(), Fail> {
     let path = "journal_of_a_test";
     let _ = fs::remove_file(&rt, path);
-    let mut store = FileStore::open(&rt, path)?;
-    assert!(rt; store.content().is_empty(), "made");
+    let (made, _, size) = opened(&rt, path)?;
+    assert!(rt; size == 0, "made");
+    let mut store = made.cut(size)?;
     commit(&mut store, &[9, 31, 63, 255, 0, 0, 0, 0])?;
     commit(&mut store, &[9, 31, 63])?;
-    let mut again = FileStore::open(&rt, path)?;
-    assert!(rt; again.content().len() == 11, "read back");
-    let mut seen = NONE;
-    open(Owner::Keeper, &mut again, &mut seen)?;
-    commit(&mut again, &[9])?;
-    let last = FileStore::open(&rt, path)?;
+    let (again, seen, size) = opened(&rt, path)?;
+    assert!(rt; seen.in_order && seen.next == 1 && size == 8, "read back");
+    let mut cut = again.cut(size)?;
+    commit(&mut cut, &[9])?;
     assert!(rt;
-        last.content() == [9, 31, 63, 255, 0, 0, 0, 0, 9].as_slice(),
+        fs::read(&rt, path)?.as_slice() == [9, 31, 63, 255, 0, 0, 0, 0, 9].as_slice(),
         "cut and grown"
     );
+    assert!(rt;
+        FileSource::open(&rt, path)?.cut(0).is_err(),
+        "not read through"
+    );
+    assert!(rt; fs::read(&rt, path)?.len() == 9, "and left as it is");
     Ok(fs::remove_file(&rt, path)?)
 }

@@ -24,6 +24,13 @@ impl FailingStore {
         }
     }
 
+    /// What it holds.
+    pub fn content(&self) -> &[u8]
+        ensures { result.now ≡ (disk_of self.now.file).appended }
+    {
+        self.file.content()
+    }
+
     // Counts a call, which fails where none is left.
     fn count(&mut self) -> Result<(), StoreError>
         ensures { self.new.file ≡ self.old.file }
@@ -36,10 +43,6 @@ impl FailingStore {
 impl Store for FailingStore {
     ghost disk = { λ s. disk_of s.file };
 
-    fn content(&self) -> &[u8] {
-        self.file.content()
-    }
-
     fn append(&mut self, bytes: &[u8]) -> Result<(), StoreError> {
         self.count()?;
         self.file.append(bytes)
@@ -48,10 +51,5 @@ impl Store for FailingStore {
     fn sync(&mut self) -> Result<(), StoreError> {
         self.count()?;
         self.file.sync()
-    }
-
-    fn truncate(&mut self, size: usize) -> Result<(), StoreError> {
-        self.count()?;
-        self.file.truncate(size)
     }
 }

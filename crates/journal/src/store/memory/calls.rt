@@ -25,11 +25,11 @@ impl MemoryStore {
         MemoryStore { bytes, synced }
     }
 
-    /// Says whether all that it holds is synced.
-    pub fn is_synced(&self) -> bool
-        ensures { result ≡ true → (disk_of self.now).synced ≡ (disk_of self.now).appended }
+    /// What it holds.
+    pub fn content(&self) -> &[u8]
+        ensures { result.now ≡ (disk_of self.now).appended }
     {
-        self.synced == self.bytes.len()
+        self.bytes.as_slice()
     }
 
     /// Makes room for so many bytes more.
@@ -63,10 +63,6 @@ impl MemoryStore {
 impl Store for MemoryStore {
     ghost disk = { disk_of };
 
-    fn content(&self) -> &[u8] {
-        self.bytes.as_slice()
-    }
-
     fn append(&mut self, bytes: &[u8]) -> Result<(), StoreError> {
         self.reserve(bytes.len())?;
         self.extend(bytes);
@@ -75,11 +71,6 @@ impl Store for MemoryStore {
 
     fn sync(&mut self) -> Result<(), StoreError> {
         self.synced = self.bytes.len();
-        Ok(())
-    }
-
-    fn truncate(&mut self, size: usize) -> Result<(), StoreError> {
-        self.cut(size);
         Ok(())
     }
 }

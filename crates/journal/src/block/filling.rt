@@ -1,0 +1,43 @@
+ghost use Rattle.std.specs.Prelude.{◌≡◌, ◌≤◌, [], length, drop};
+ghost use Rattle.journal.specs.Blocks.{left, Filled};
+
+use crate::block::{BLOCK, Block};
+use crate::source::Source;
+use crate::store::StoreError;
+
+impl Block {
+    /// It holds nothing.
+    pub fn new() -> Block
+        ensures { left result ≡ [] }
+    {
+        Block {
+            bytes: [0; BLOCK],
+            held: 0,
+        }
+    }
+
+    /// What it holds.
+    pub fn left(&self) -> &[u8]
+        ensures { result.now ≡ left self.now }
+    {
+        &self.bytes[..self.held]
+    }
+
+    /// Reads on, behind what it holds, and says how many bytes came.
+    pub fn fill<S: Source>(&mut self, from: &mut S) -> Result<usize, StoreError>
+        ensures { Filled (S.had from.old) (S.had from.new) (S.ended from.new) (left self.old) (left self.new) result }
+    {
+        let count = from.read(&mut self.bytes[self.held..])?;
+        self.held += count;
+        Ok(count)
+    }
+
+    /// Lets go of so many first bytes.
+    pub fn pass(&mut self, size: usize)
+        requires { size ≤ length (left self.old) }
+        ensures { left self.new ≡ drop size (left self.old) }
+    {
+        self.bytes.copy_within(size..self.held, 0);
+        self.held -= size;
+    }
+}

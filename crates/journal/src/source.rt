@@ -1,0 +1,20 @@
+ghost use Rattle.std.specs.Prelude.{List, ℕ, length};
+ghost use Rattle.journal.specs.Sources.{Fetched};
+
+use crate::store::StoreError;
+
+pub mod file;
+pub mod memory;
+
+/// A file that is read from its beginning on, before anything is written to it.
+pub trait Source {
+    // what was read of it so far
+    ghost had: { Self → List ℕ };
+
+    // that is all there is
+    ghost ended: { Self → Type 0 };
+
+    /// Reads on, into the first bytes of the block, and says how many bytes came: none only at the end of the file.
+    fn read(&mut self, block: &mut [u8]) -> Result<usize, StoreError>
+        ensures { Fetched (had self.old) (had self.new) (ended self.new) (length block.old) block.new result };
+}
