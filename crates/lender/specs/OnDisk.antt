@@ -1,12 +1,11 @@
 -- What the keeper's memory has is what its journal replays to, after every message and after coming up.
 -- Assumes nothing.
-use Rattle.std.specs.Prelude.{◌≡◌, ℕ, List, Ok, Err, Result}
+use Rattle.std.specs.Prelude.{◌≡◌, ℕ, List, ◌++◌, take, Ok, Err, Result}
 use Rattle.journal.specs.declared.record.Owner.TheVariants as owner
 use Rattle.journal.specs.declared.replay.OpenError.{OpenError}
 use Rattle.journal.specs.declared.replay.OpenError.TheVariants as why
 use Rattle.journal.specs.Records.{records_of, bytes_of}
-use Rattle.journal.specs.Reading.{Refused}
-use Rattle.journal.specs.Stores.{Disk}
+use Rattle.journal.specs.Reading.{Cut, Refused}
 use Rattle.lender.specs.declared.keeper.Keeper.{Keeper}
 use Rattle.lender.specs.Book.{keeper_book, keeper_parts}
 use Rattle.lender.specs.Replay.{Memory, memory, replay, nothing}
@@ -19,11 +18,10 @@ pub record Holds (s : Memory) (file : List ℕ) : Type 0 where
 abbrev pub OnDisk : Keeper → List ℕ → Type 0
 OnDisk k file = Holds (memory (keeper_book k) (keeper_parts k)) file
 
--- what opening gives: a keeper whose memory is what the whole records of its journal make, all of it on disk;
--- a journal with something else in it is refused, and left as it was
-abbrev pub OpenedAs : (was is : Disk) (long : ℕ) → Result Keeper OpenError → Type 0
-OpenedAs was is l (Ok k) =
-    OnDisk k is.appended × (is.appended ≡ bytes_of (records_of owner.Keeper was.appended)) × (is.synced ≡ is.appended) × ((keeper_book k).long ≡ l)
-OpenedAs was is l (Err why.NoMemory) = (is.appended ≡ was.appended) × (is.synced ≡ was.synced)
-OpenedAs was is l (Err (why.Malformed o)) = (o ≡ owner.Keeper) × Refused owner.Keeper was.appended × (is.appended ≡ was.appended) × (is.synced ≡ was.synced)
+-- what a journal that is read gives, of which these bytes come behind what was read before: a keeper whose memory is what its whole records
+-- make, and where they end; one with something else in it is refused
+abbrev pub OpenedAs : (was is : List ℕ) (long : ℕ) → Result (Keeper × ℕ) OpenError → Type 0
+OpenedAs was is l (Ok x) = (bs : List ℕ) × (is ≡ was ++ bs) × Cut owner.Keeper bs x.1 × OnDisk x.0 (take x.1 bs) × ((keeper_book x.0).long ≡ l)
+OpenedAs was is l (Err why.NoMemory) = is ≡ was
+OpenedAs was is l (Err (why.Malformed o)) = (o ≡ owner.Keeper) × (bs : List ℕ) × (is ≡ was ++ bs) × Refused owner.Keeper bs
 OpenedAs was is l (Err (why.Store e)) = Unit {0}

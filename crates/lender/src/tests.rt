@@ -1,7 +1,7 @@
 // What no contract says: that the keeper runs as it is proved to, at the edges of its table and on a long journal.
 use crate::keeper::Keeper;
 use journal::record::Record;
-use journal::store::Store;
+use journal::source::memory::MemorySource;
 use journal::store::memory::MemoryStore;
 use message::encode::encode;
 use message::form::{Ask, Message};
@@ -93,9 +93,10 @@ fn a_long_journal_is_replayed(rt: HostRuntime) -> Result<(), Fail> {
         bytes.extend_from_slice(&record)?;
     }
     bytes.extend_from_slice(&[8, 0, 0])?;
-    let mut store = MemoryStore::holding(bytes);
-    let mut keeper = Keeper::open(rt.alloc(), 110, &mut store)?;
-    assert_eq!(rt; store.content().len(), 80000, "the torn record is cut");
+    let mut journal = MemorySource::of(bytes);
+    let (mut keeper, size) = Keeper::open(rt.alloc(), 110, &mut journal)?;
+    assert_eq!(rt; size, 80000, "the torn record is to be cut");
+    let mut store = journal.cut(size);
     assert!(rt; keeper.come_up(5).is_ok());
     let last = head(16, 7, 10000).ok_or("no head")?;
     assert_eq!(rt;

@@ -1,4 +1,4 @@
-ghost use Rattle.std.specs.Prelude.{◌≡◌, IfOk};
+ghost use Rattle.std.specs.Prelude.{◌≡◌, IfOk, OnOk};
 ghost use Rattle.part.specs.Parts.{blank};
 ghost use Rattle.lender.specs.Book.{keeper_book, keeper_parts};
 ghost use Rattle.lender.specs.Rules.{fresh};
@@ -8,8 +8,8 @@ ghost use Rattle.lender.specs.OnDisk.{OpenedAs};
 use crate::keeper::Keeper;
 use crate::lender::Lender;
 use journal::record::{Owner, Record};
-use journal::replay::{Journaled, OpenError, open};
-use journal::store::Store;
+use journal::replay::{Journaled, OpenError, read_through};
+use journal::source::Source;
 use part::files::Files;
 use std::alloc::{AllocError, Global};
 
@@ -24,13 +24,19 @@ impl Keeper {
         })
     }
 
-    /// A keeper from its journal, which is cut after its last whole record. It is not up before `come_up`.
-    pub fn open<S: Store>(heap: Global, long: u64, store: &mut S) -> Result<Keeper, OpenError>
-        ensures { OpenedAs (S.disk store.old) (S.disk store.new) long result }
+    /// A keeper from its journal, which is read to its end, and how many bytes of it are whole records: after them it is to be cut before
+    /// the keeper writes to it. It is not up before `come_up`.
+    pub fn open<S: Source>(
+        heap: Global,
+        long: u64,
+        journal: &mut S,
+    ) -> Result<(Keeper, usize), OpenError>
+        ensures opened { OpenedAs (S.had journal.old) (S.had journal.new) long result }
+        ensures ended { OnOk result (S.ended journal.new) }
     {
         let mut keeper = Keeper::new(heap, long)?;
-        open(Owner::Keeper, store, &mut keeper)?;
-        Ok(keeper)
+        let size = read_through(Owner::Keeper, journal, &mut keeper)?;
+        Ok((keeper, size))
     }
 }
 
