@@ -1,14 +1,13 @@
 -- What a tablet is after coming up from its journal.
 -- Assumes nothing.
-use Rattle.std.specs.Prelude.{◌≡◌, ℕ, List, [], ◌∷◌, Ok, Err, Result}
+use Rattle.std.specs.Prelude.{◌≡◌, ℕ, List, [], ◌∷◌, ◌++◌, Ok, Err, Result}
 use Rattle.part.specs.declared.who.Who.{Who}
 use Rattle.part.specs.Parts.{at_1, blank}
 use Rattle.journal.specs.declared.record.Owner.TheVariants as owner
 use Rattle.journal.specs.declared.replay.OpenError.{OpenError}
 use Rattle.journal.specs.declared.replay.OpenError.TheVariants as why
-use Rattle.journal.specs.Records.{Rec, Applied, VoidUpTo, Numbers, bytes_of, records_of}
-use Rattle.journal.specs.Reading.{Refused}
-use Rattle.journal.specs.Stores.{Disk}
+use Rattle.journal.specs.Records.{Rec, Applied, VoidUpTo, Numbers, records_of}
+use Rattle.journal.specs.Reading.{Cut, Refused}
 use Rattle.borrower.specs.declared.hold.OnFile.{OnFile}
 use Rattle.borrower.specs.declared.tablet.Tablet.{Tablet}
 use Rattle.borrower.specs.Steps.{risen}
@@ -29,11 +28,10 @@ pub record CameUp (w : Who) (s : ℕ) (file : List ℕ) (t : Tablet) : Type 0 wh
   pub short : t.short ≡ s
   pub who : t.who ≡ w
 
--- what opening gives: a tablet that came up, its journal cut after the last whole record and on disk;
--- a journal with something else in it is refused, and left as it was
-abbrev pub OpenedAs : (was is : Disk) → Who → (short : ℕ) → Result Tablet OpenError → Type 0
-OpenedAs was is w s (Ok t) =
-    CameUp w s was.appended t × (is.appended ≡ bytes_of (records_of owner.Borrower was.appended)) × (is.synced ≡ is.appended)
-OpenedAs was is w s (Err why.NoMemory) = (is.appended ≡ was.appended) × (is.synced ≡ was.synced)
-OpenedAs was is w s (Err (why.Malformed o)) = (o ≡ owner.Borrower) × Refused owner.Borrower was.appended × (is.appended ≡ was.appended) × (is.synced ≡ was.synced)
+-- what a journal that is read gives, of which these bytes come behind what was read before: a tablet that came up, and where the whole
+-- records end; one with something else in it is refused
+abbrev pub OpenedAs : (was is : List ℕ) → Who → (short : ℕ) → Result (Tablet × ℕ) OpenError → Type 0
+OpenedAs was is w s (Ok x) = (bs : List ℕ) × (is ≡ was ++ bs) × Cut owner.Borrower bs x.1 × CameUp w s bs x.0
+OpenedAs was is w s (Err why.NoMemory) = is ≡ was
+OpenedAs was is w s (Err (why.Malformed o)) = (o ≡ owner.Borrower) × (bs : List ℕ) × (is ≡ was ++ bs) × Refused owner.Borrower bs
 OpenedAs was is w s (Err (why.Store e)) = Unit {0}

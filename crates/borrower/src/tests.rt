@@ -2,6 +2,7 @@
 use crate::hold::{Held, OnFile, Part, Timing};
 use crate::outcome::{Call, Outcome};
 use crate::tablet::Tablet;
+use journal::source::memory::MemorySource;
 use journal::store::Store;
 use journal::store::failing::FailingStore;
 use journal::store::memory::MemoryStore;
@@ -119,7 +120,9 @@ fn numbers_only_rise(rt: HostRuntime) -> Result<(), Fail> {
     let mut last = 0;
     // The ranges count how often: five times up, and 70 asks each.
     for _ in 0..5 {
-        let mut tablet = Tablet::open(rt.alloc(), who, 100, &mut store)?;
+        let mut journal = MemorySource::of(store.content().to_vec(rt.alloc())?);
+        let (mut tablet, size) = Tablet::open(rt.alloc(), who, 100, &mut journal)?;
+        assert_eq!(rt; size, store.content().len());
         for _ in 0..70 {
             let outcome = tablet.call(&mut store, 1000, place, Call::Ask(Kind::Reading))?;
             let number = asked(outcome).ok_or("no ask is sent")?;

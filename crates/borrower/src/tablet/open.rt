@@ -1,4 +1,4 @@
-ghost use Rattle.std.specs.Prelude.{◌≡◌, IfOk};
+ghost use Rattle.std.specs.Prelude.{◌≡◌, IfOk, OnOk};
 ghost use Rattle.borrower.specs.Tablets.{copy_at};
 ghost use Rattle.borrower.specs.Outcomes.{Fresh, Reread};
 ghost use Rattle.borrower.specs.Opened.{OpenedAs};
@@ -6,8 +6,8 @@ ghost use Rattle.borrower.specs.Opened.{OpenedAs};
 use crate::hold::OnFile;
 use crate::tablet::{Kept, Tablet};
 use journal::record::{Owner, Record};
-use journal::replay::{Journaled, OpenError, open};
-use journal::store::Store;
+use journal::replay::{Journaled, OpenError, read_through};
+use journal::source::Source;
 use part::files::Files;
 use part::place::Place;
 use part::who::Who;
@@ -29,18 +29,20 @@ impl Tablet {
         })
     }
 
-    /// A tablet that comes up from its journal, which is cut after its last whole record.
-    pub fn open<S: Store>(
+    /// A tablet that comes up from its journal, which is read to its end, and how many bytes of it are whole records: after them it is to
+    /// be cut before the tablet writes to it.
+    pub fn open<S: Source>(
         heap: Global,
         who: Who,
         short: u64,
-        store: &mut S,
-    ) -> Result<Tablet, OpenError>
-        ensures { OpenedAs (S.disk store.old) (S.disk store.new) who short result }
+        journal: &mut S,
+    ) -> Result<(Tablet, usize), OpenError>
+        ensures opened { OpenedAs (S.had journal.old) (S.had journal.new) who short result }
+        ensures ended { OnOk result (S.ended journal.new) }
     {
         let mut tablet = Tablet::new(heap, who, short)?;
-        open(Owner::Borrower, store, &mut tablet)?;
-        Ok(tablet)
+        let size = read_through(Owner::Borrower, journal, &mut tablet)?;
+        Ok((tablet, size))
     }
 
     /// The bytes of a copy; they may be shown only where `show` said so.

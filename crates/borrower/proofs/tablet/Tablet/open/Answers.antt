@@ -5,10 +5,10 @@ use Rattle.borrower.specs.Tablets.{no_numbers}
 use Rattle.borrower.proofs.Opened.{through}
 use Rattle.borrower.proofs.tablet.Tablet.open.Goals as goal
 
-pub returns : goal.returns
-returns g c =
+pub returns-clause-opened : goal.returns-clause-opened
+returns-clause-opened g c =
     let n = c.in_ok-tablet.ensures in
-    let o = c.in_ok-open.ensures in
-    let came = through c.args.who c.args.short _ c.in_ok-tablet.tablet c.open.new.into (λ q. no_numbers)
+    let o = c.in_ok-size.ensures.through in
+    let came = through c.args.who c.args.short _ c.in_ok-tablet.tablet c.read_through.new.into (λ q. no_numbers)
     (record { filed = n.filed; parts = n.parts ∙ ap (λ (f : ℕ → OnFile). λ q. risen (f q)) (sym n.filed); copies = n.copies; short = n.short; who = n.who }) o.3 in
-    (record { filed = came.filed; parts = came.parts; copies = came.copies; short = came.short; who = came.who }, o.0, o.1)
+    (o.0, o.1, o.2, record { filed = came.filed; parts = came.parts; copies = came.copies; short = came.short; who = came.who })
