@@ -1,19 +1,22 @@
 -- A tablet that went through the records of its journal has come up.
 -- Assumes nothing.
-use Rattle.std.proofs.Common.{◌≡◌, ℕ, cond, eqb, List, [], ◌∷◌, sym, ap, ◌∙◌, subst}
+use Rattle.std.proofs.Common.{◌≡◌, ℕ, cond, eqb, List, [], ◌∷◌, take, sym, ap, ◌∙◌, subst}
 use mathlib.Core.Path.{fun_ext}
 use Rattle.std.proofs.lemmas.Bool.{cond_both}
 use Rattle.part.specs.declared.who.Who.{Who}
 use Rattle.part.specs.Parts.{at_1, blank}
+use Rattle.journal.specs.declared.record.Owner.TheVariants.{Borrower}
 use Rattle.journal.specs.Records.{Rec, Applied, VoidUpTo, Numbers}
+use Rattle.journal.specs.Reading.{Cut}
 use Rattle.journal.specs.Replays.{Through}
+use Rattle.journal.proofs.Readers.{cut_once}
 use Rattle.borrower.specs.declared.hold.OnFile.{OnFile}
 use Rattle.borrower.specs.declared.hold.Part.{Part}
 use Rattle.borrower.specs.declared.tablet.Tablet.{Tablet}
 use Rattle.borrower.specs.Steps.{risen}
-use Rattle.borrower.specs.Tablets.{part_at, filed_at, copy_at}
+use Rattle.borrower.specs.Tablets.{part_at, filed_at, copy_at, no_numbers}
 use Rattle.borrower.specs.Outcomes.{Reread}
-use Rattle.borrower.specs.Opened.{said}
+use Rattle.borrower.specs.Opened.{said, CameUp}
 
 -- so many records on
 pub record Came (w : Who) (s : ℕ) (fs : ℕ → OnFile) (t : Tablet) : Type 0 where
@@ -42,3 +45,13 @@ through w s (Numbers q a n ∷ rs) t u fs c (m, p, r) =
     r
 through w s (Applied i q n v ∷ rs) t u fs c (m, p, r) = through w s rs m u fs (rw p c) r
 through w s (VoidUpTo i q n ∷ rs) t u fs c (m, p, r) = through w s rs m u fs (rw p c) r
+
+-- it came up from what its journal has after it was cut, too
+pub cut_too : (w : Who) (s n : ℕ) (bs : List ℕ) (t : Tablet) → Cut Borrower bs n → CameUp w s bs t → CameUp w s (take n bs) t
+cut_too w s n bs t c u = record {
+  filed = u.filed ∙ ap (λ (rs : List Rec). said rs (λ q. no_numbers)) (sym (cut_once Borrower bs n c).0);
+  parts = u.parts;
+  copies = u.copies;
+  short = u.short;
+  who = u.who;
+}

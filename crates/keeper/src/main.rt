@@ -2,8 +2,7 @@
 #![tactic(auto)]
 
 use anyhow::{Context, bail};
-use journal::store::file::FileStore;
-use lender::keeper::Keeper;
+use journal::source::file::FileSource;
 use session::Session;
 use startup::serve::{end, serve};
 use startup::terms;
@@ -36,9 +35,8 @@ fn run(rt: &HostRuntime) -> anyhow::Result<()> {
         bail!(WANTED);
     };
     let terms = terms(rate.as_bytes(), short.as_bytes(), long.as_bytes())?;
-    let mut store = FileStore::open(rt, path.as_str())?;
-    let keeper = Keeper::open(rt.alloc(), terms.long, &mut store)?;
-    serve(rt, &mut Session::new(keeper, store))
+    let journal = FileSource::open(rt, path.as_str())?;
+    serve(rt, &mut Session::open(rt.alloc(), terms.long, journal)?)
 }
 
 fn main(rt: HostRuntime) -> ExitCode {

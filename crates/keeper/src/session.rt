@@ -1,12 +1,16 @@
 use crate::line::{Heard, parse};
 use crate::print;
 use anyhow::Result;
+use journal::replay::OpenError;
+use journal::source::file::FileSource;
 use journal::store::Store;
+use journal::store::file::FileStore;
 use lender::keeper::Keeper;
 use lines::output::Output;
 use message::refusal::Refusal;
 use startup::print::refused;
 use startup::serve::{Answers, ROOM};
+use std::alloc::Global;
 
 /// A keeper with its journal, whether it is up, and what its clock read last: a reading counts also where it can't come up.
 #[derive(Drop)]
@@ -15,6 +19,24 @@ pub struct Session<S> {
     store: S,
     up: bool,
     last: u64,
+}
+
+impl Session<FileStore> {
+    ghost use Rattle.std.specs.Prelude.{◌≡◌, [], IfOk};
+    ghost use Rattle.keeper.specs.Started.{Started};
+
+    /// A keeper from the journal in a file, of which nothing was read yet. It is cut after its last whole record, on the disk too.
+    pub fn open(
+        heap: Global,
+        long: u64,
+        mut journal: FileSource,
+    ) -> Result<Session<FileStore>, OpenError>
+        ensures { journal.told.appended ≡ [] → IfOk result (Started long) }
+    {
+        let (keeper, size) = Keeper::open(heap, long, &mut journal)?;
+        let store = journal.cut(size)?;
+        Ok(Session::new(keeper, store))
+    }
 }
 
 impl<S: Store> Session<S> {
@@ -27,7 +49,7 @@ impl<S: Store> Session<S> {
 
     /// It comes up with the first line.
     pub fn new(keeper: Keeper, store: S) -> Session<S>
-        ensures { (result.last ≡ 0) × (result.up ≡ false) }
+        ensures { (result.keeper ≡ keeper) × (result.store ≡ store) × (result.last ≡ 0) × (result.up ≡ false) }
     {
         Session {
             keeper,

@@ -2,8 +2,7 @@
 #![tactic(auto)]
 
 use anyhow::{Context, bail};
-use borrower::tablet::Tablet;
-use journal::store::file::FileStore;
+use journal::source::file::FileSource;
 use lines::names::byte;
 use part::who::Who;
 use session::Session;
@@ -46,9 +45,11 @@ fn run(rt: &HostRuntime) -> anyhow::Result<()> {
     };
     let who = borrower(id.as_bytes()).context("BORROWER is a number from 0 to 31")?;
     let terms = terms(rate.as_bytes(), short.as_bytes(), long.as_bytes())?;
-    let mut store = FileStore::open(rt, path.as_str())?;
-    let tablet = Tablet::open(rt.alloc(), who, terms.short, &mut store)?;
-    serve(rt, &mut Session::new(tablet, store))
+    let journal = FileSource::open(rt, path.as_str())?;
+    serve(
+        rt,
+        &mut Session::open(rt.alloc(), who, terms.short, journal)?,
+    )
 }
 
 fn main(rt: HostRuntime) -> ExitCode {

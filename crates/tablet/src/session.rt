@@ -3,13 +3,17 @@ use crate::print;
 use anyhow::Result;
 use borrower::outcome::Call;
 use borrower::tablet::Tablet;
+use journal::replay::OpenError;
+use journal::source::file::FileSource;
 use journal::store::Store;
+use journal::store::file::FileStore;
 use lines::output::Output;
 use message::refusal::Refusal;
 use part::place::Place;
+use part::who::Who;
 use startup::print::refused;
 use startup::serve::{Answers, ROOM};
-use std::alloc::AllocError;
+use std::alloc::{AllocError, Global};
 
 /// A tablet with its journal, and what its clock read last.
 #[derive(Drop)]
@@ -17,6 +21,25 @@ pub struct Session<S> {
     tablet: Tablet,
     store: S,
     last: u64,
+}
+
+impl Session<FileStore> {
+    ghost use Rattle.std.specs.Prelude.{◌≡◌, [], IfOk};
+    ghost use Rattle.tablet.specs.Started.{Started};
+
+    /// A tablet from the journal in a file, of which nothing was read yet. It is cut after its last whole record, on the disk too.
+    pub fn open(
+        heap: Global,
+        who: Who,
+        short: u64,
+        mut journal: FileSource,
+    ) -> Result<Session<FileStore>, OpenError>
+        ensures { journal.told.appended ≡ [] → IfOk result (Started who short) }
+    {
+        let (tablet, size) = Tablet::open(heap, who, short, &mut journal)?;
+        let store = journal.cut(size)?;
+        Ok(Session::new(tablet, store))
+    }
 }
 
 impl<S: Store> Session<S> {
@@ -30,7 +53,7 @@ impl<S: Store> Session<S> {
 
     /// It is up from the start.
     pub fn new(tablet: Tablet, store: S) -> Session<S>
-        ensures { result.last ≡ 0 }
+        ensures { (result.tablet ≡ tablet) × (result.store ≡ store) × (result.last ≡ 0) }
     {
         Session {
             tablet,
