@@ -120,7 +120,7 @@ fn numbers_only_rise(rt: HostRuntime) -> Result<(), Fail> {
     let mut last = 0;
     // The ranges count how often: five times up, and 70 asks each.
     for _ in 0..5 {
-        let mut journal = MemorySource::of(store.content().to_vec(rt.alloc())?);
+        let mut journal = MemorySource::of(store.content());
         let (mut tablet, size) = Tablet::open(rt.alloc(), who, 100, &mut journal)?;
         assert_eq!(rt; size, store.content().len());
         for _ in 0..70 {

@@ -15,4 +15,4 @@ room_of s = vec_capacity s.bytes - vec_len s.bytes
 
 -- what was read of it
 abbrev pub read_of : MemorySource → List ℕ
-read_of s = take s.at (vec_items s.bytes)
+read_of s = take s.at s.bytes.now

@@ -1,5 +1,5 @@
 // Journals that a stop cut short at each byte, with each kind of bad record, long ones, and stores that fail.
-ghost use Rattle.std.specs.Prelude.{◌≡◌, vec_len};
+ghost use Rattle.std.specs.Prelude.{◌≡◌, length};
 ghost use Rattle.journal.specs.Memory.{read_of};
 
 use crate::read::{kept, whole};
@@ -247,24 +247,18 @@ fn a_thousand_records_are_replayed(rt: HostRuntime) -> Result<(), Fail> {
     Ok(())
 }
 
-// A file in memory, to be read, with what a store has.
-fn source(heap: Global, store: &MemoryStore) -> Result<MemorySource, AllocError> {
-    Ok(MemorySource::of(store.content().to_vec(heap)?))
-}
-
 #[test]
 fn a_journal_is_read_in_blocks(rt: HostRuntime) -> Result<(), Fail> {
     let mut store = MemoryStore::new(rt.alloc());
     fill(&mut store, 1000)?;
     let size = store.content().len();
     store.append(&[8, 0, 0])?;
-    let mut from = source(rt.alloc(), &store)?;
+    let mut from = MemorySource::of(store.content());
     let mut seen = NONE;
     assert_eq!(rt; read_through(Owner::Keeper, &mut from, &mut seen), Ok(size));
     assert!(rt; seen.in_order && seen.next == 1000 && seen.parts == 500);
-    let cut = from.cut(size);
-    assert!(rt; cut.content().len() == size, "the torn end is gone");
-    let whole = kept(Owner::Keeper, cut.content()).map_err(|_| "refused")?;
+    store.cut(size);
+    let whole = kept(Owner::Keeper, store.content()).map_err(|_| "refused")?;
     assert!(rt; whole.len() == size);
     Ok(())
 }
@@ -274,7 +268,7 @@ fn a_bad_record_far_on_is_refused(rt: HostRuntime) -> Result<(), Fail> {
     let mut store = MemoryStore::new(rt.alloc());
     fill(&mut store, 200)?;
     store.append(&[7])?;
-    let mut from = source(rt.alloc(), &store)?;
+    let mut from = MemorySource::of(store.content());
     let mut seen = NONE;
     assert_eq!(rt;
         read_through(Owner::Keeper, &mut from, &mut seen),
@@ -285,15 +279,15 @@ fn a_bad_record_far_on_is_refused(rt: HostRuntime) -> Result<(), Fail> {
 
 // A file that can be read so many times.
 #[derive(Drop)]
-struct FailingSource {
-    from: MemorySource,
+struct FailingSource<'a> {
+    from: MemorySource<'a>,
     left: usize,
 }
 
-impl Source for FailingSource {
+impl<'a> Source for FailingSource<'a> {
     ghost had = { λ s. read_of s.from };
 
-    ghost ended = { λ s. s.from.at ≡ vec_len s.from.bytes };
+    ghost ended = { λ s. s.from.at ≡ length s.from.bytes.now };
 
     fn read(&mut self, block: &mut [u8]) -> Result<usize, StoreError> {
         self.left = self.left.checked_sub(1).ok_or(StoreError::Failed)?;
@@ -306,7 +300,7 @@ fn a_file_that_cannot_be_read_on(rt: HostRuntime) -> Result<(), Fail> {
     let mut store = MemoryStore::new(rt.alloc());
     fill(&mut store, 200)?;
     let mut from = FailingSource {
-        from: source(rt.alloc(), &store)?,
+        from: MemorySource::of(store.content()),
         left: 1,
     };
     let mut seen = NONE;

@@ -93,10 +93,11 @@ fn a_long_journal_is_replayed(rt: HostRuntime) -> Result<(), Fail> {
         bytes.extend_from_slice(&record)?;
     }
     bytes.extend_from_slice(&[8, 0, 0])?;
-    let mut journal = MemorySource::of(bytes);
+    let mut store = MemoryStore::holding(bytes);
+    let mut journal = MemorySource::of(store.content());
     let (mut keeper, size) = Keeper::open(rt.alloc(), 110, &mut journal)?;
     assert_eq!(rt; size, 80000, "the torn record is to be cut");
-    let mut store = journal.cut(size);
+    store.cut(size);
     assert!(rt; keeper.come_up(5).is_ok());
     let last = head(16, 7, 10000).ok_or("no head")?;
     assert_eq!(rt;

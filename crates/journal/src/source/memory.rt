@@ -1,11 +1,11 @@
-ghost use Rattle.std.specs.Prelude.{◌≤◌, vec_len};
+ghost use Rattle.std.specs.Prelude.{◌≤◌, length};
 
 pub mod reading;
 
-/// A file in memory that is read, for tests.
+/// A file in memory that is read, for rehearsals and tests.
 #[derive(Drop)]
-pub struct MemorySource {
-    bytes: Vec<u8>,
+pub struct MemorySource<'a> {
+    bytes: &'a [u8],
     at: usize,
-    ghost within: { at ≤ vec_len bytes },
+    ghost within: { at ≤ length bytes.now },
 }

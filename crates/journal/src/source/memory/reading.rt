@@ -1,41 +1,30 @@
-ghost use Rattle.std.specs.Prelude.{◌≡◌, take, drop, vec_items, vec_len};
-ghost use Rattle.journal.specs.Memory.{disk_of, read_of};
+ghost use Rattle.std.specs.Prelude.{◌≡◌, length, drop};
+ghost use Rattle.journal.specs.Memory.{read_of};
 
 use crate::source::Source;
 use crate::source::memory::MemorySource;
 use crate::store::StoreError;
-use crate::store::memory::MemoryStore;
 
-impl MemorySource {
+impl<'a> MemorySource<'a> {
     /// A file that has these bytes, of which none was read.
-    pub fn of(bytes: Vec<u8>) -> MemorySource
-        ensures { (result.bytes ≡ bytes) × (result.at ≡ 0) }
+    pub fn of(bytes: &'a [u8]) -> MemorySource<'a>
+        ensures { (result.bytes.now ≡ bytes.now) × (result.at ≡ 0) }
     {
         MemorySource { bytes, at: 0 }
     }
 
     // What was not read yet.
     fn left(&self) -> &[u8]
-        ensures { result.now ≡ drop self.now.at (vec_items self.now.bytes) }
+        ensures { result.now ≡ drop self.now.at self.now.bytes.now }
     {
         &self.bytes[self.at..]
     }
-
-    /// The file, cut to so many of its first bytes, to be written.
-    pub fn cut(self, size: usize) -> MemoryStore
-        ensures { (disk_of result).appended ≡ take size (vec_items self.bytes) }
-    {
-        let MemorySource { bytes, .. } = self;
-        let mut store = MemoryStore::holding(bytes);
-        store.cut(size);
-        store
-    }
 }
 
-impl Source for MemorySource {
+impl<'a> Source for MemorySource<'a> {
     ghost had = { read_of };
 
-    ghost ended = { λ s. s.at ≡ vec_len s.bytes };
+    ghost ended = { λ s. s.at ≡ length s.bytes.now };
 
     fn read(&mut self, block: &mut [u8]) -> Result<usize, StoreError> {
         let left = self.left();
