@@ -1,10 +1,12 @@
 -- What a block holds, and what reading a file in memory gives.
 -- Assumes nothing.
-use Rattle.std.proofs.Common.{◌≡◌, ℕ, ◌+◌, ◌-◌, ◌≤◌, List, ◌++◌, length, take, drop, zero-add, sym, ap, ◌∙◌, arith}
+use Rattle.std.proofs.Common.{◌≡◌, ℕ, [], Some, ◌+◌, ◌-◌, ◌≤◌, List, ◌++◌, length, take, drop, zero-add, sym, ap, ◌∙◌, arith}
 use Rattle.std.proofs.Math.Seq.{take-add, paste}
-use Rattle.std.proofs.lemmas.List.{length-take, length-drop, drop-take, take_at}
+use Rattle.std.proofs.lemmas.List.{length-take, length-drop, drop-take, take_at, take_all}
 use Rattle.std.proofs.lemmas.List.Edits.{take-paste}
 use Rattle.std.specs.List.{copy_within}
+use Rattle.journal.specs.declared.source.memory.MemorySource.{MemorySource}
+use Rattle.journal.specs.Memory.{read_of}
 
 -- what is held behind the bytes that are let go of comes to the front
 pub passed : (bs cs : List ℕ) (held size : ℕ) → cs ≡ copy_within bs size held 0 → held ≤ length bs → size ≤ length (take held bs)
@@ -21,3 +23,12 @@ pub came : (bs block got : List ℕ) (at n : ℕ) → got ≡ take n (drop at bs
 came bs block got at n e l h =
     let k : length got ≡ n = ap length e ∙ length-take n (drop at bs) ∙ omega arith in
     take-add at n bs ∙ ap (λ (q : List ℕ). take at bs ++ q) (sym e ∙ sym (take_at got (drop n block) n k))
+
+-- a file in memory that was read from its beginning to its end: all that it has was read
+pub all_read : (from done : MemorySource) (file bs : List ℕ) → (from.bytes.now ≡ file) × (from.at ≡ 0) → Some done.bytes.now ≡ Some from.bytes.now
+    → done.at ≡ length done.bytes.now → read_of done ≡ read_of from ++ bs → bs ≡ file
+all_read from done file bs (f, z) w e r =
+    let same : done.bytes.now ≡ from.bytes.now = cc in
+    let none : read_of from ≡ [] = ap (λ (n : ℕ). take n from.bytes.now) z in
+    let all : read_of done ≡ done.bytes.now = take_all done.at done.bytes.now (omega (arith, e)) in
+    sym (ap (λ (q : List ℕ). q ++ bs) none) ∙ sym r ∙ all ∙ same ∙ f

@@ -109,6 +109,7 @@ pub fn read_through<S: Source, R: Journaled>(
     from: &mut S,
     into: &mut R,
 ) -> Result<usize, OpenError>
+    ensures whole { S.whole from.new ≡ S.whole from.old }
     ensures through { ReadThrough R.becomes owner (S.had from.old) (S.had from.new) into.old into.new result }
     ensures ended { OnOk result (S.ended from.new) }
 {

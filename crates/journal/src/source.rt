@@ -1,4 +1,4 @@
-ghost use Rattle.std.specs.Prelude.{List, ℕ, length};
+ghost use Rattle.std.specs.Prelude.{◌≡◌, ℕ, List, Option, length};
 ghost use Rattle.journal.specs.Sources.{Fetched};
 
 use crate::store::StoreError;
@@ -14,7 +14,11 @@ pub trait Source {
     // that is all there is
     ghost ended: { Self → Type 0 };
 
+    // all that it has, where that is known before it is read
+    ghost whole: { Self → Option (List ℕ) };
+
     /// Reads on, into the first bytes of the block, and says how many bytes came: none only at the end of the file.
     fn read(&mut self, block: &mut [u8]) -> Result<usize, StoreError>
-        ensures { Fetched (had self.old) (had self.new) (ended self.new) (length block.old) block.new result };
+        ensures whole { whole self.new ≡ whole self.old }
+        ensures bytes { Fetched (had self.old) (had self.new) (ended self.new) (length block.old) block.new result };
 }

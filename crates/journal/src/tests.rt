@@ -1,5 +1,5 @@
 // Journals that a stop cut short at each byte, with each kind of bad record, long ones, and stores that fail.
-ghost use Rattle.std.specs.Prelude.{◌≡◌, length};
+ghost use Rattle.std.specs.Prelude.{◌≡◌, Some, length};
 ghost use Rattle.journal.specs.Memory.{read_of};
 
 use crate::read::{kept, whole};
@@ -288,6 +288,8 @@ impl<'a> Source for FailingSource<'a> {
     ghost had = { λ s. read_of s.from };
 
     ghost ended = { λ s. s.from.at ≡ length s.from.bytes.now };
+
+    ghost whole = { λ s. Some s.from.bytes.now };
 
     fn read(&mut self, block: &mut [u8]) -> Result<usize, StoreError> {
         self.left = self.left.checked_sub(1).ok_or(StoreError::Failed)?;

@@ -7,6 +7,7 @@ use crate::fault::Fault;
 use crate::torn::append_torn;
 use borrower::outcome::{Call, Outcome};
 use borrower::tablet::Tablet;
+use journal::source::memory::MemorySource;
 use journal::store::memory::MemoryStore;
 use part::place::Place;
 use part::who::Who;
@@ -39,7 +40,9 @@ impl BorrowerNode {
         ensures is { IfOk result (λ _. borrower_of self.new ≡ borrower_up (borrower_of self.old).file) }
         ensures keeps { Keeps self.old self.new }
     {
-        let tablet = Tablet::open(heap, self.who, self.short, &mut self.journal)?;
+        let mut from = MemorySource::of(self.journal.content());
+        let (tablet, size) = Tablet::open(heap, self.who, self.short, &mut from)?;
+        self.journal.cut(size);
         self.tablet = Some(tablet);
         Ok(())
     }

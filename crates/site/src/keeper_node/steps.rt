@@ -12,7 +12,7 @@ use crate::torn::append_torn;
 use crate::written::Written;
 use journal::record::{Owner, Record};
 use journal::replay::replay;
-use journal::store::Store;
+use journal::source::memory::MemorySource;
 use journal::store::memory::MemoryStore;
 use lender::answer::Reply;
 use lender::keeper::Keeper;
@@ -69,7 +69,9 @@ impl KeeperNode {
         if clock.checked_add(self.long).is_none() {
             return Ok(Err(Refusal::Exhausted));
         }
-        let mut memory = Keeper::open(heap, self.long, &mut self.journal)?;
+        let mut from = MemorySource::of(self.journal.content());
+        let (mut memory, size) = Keeper::open(heap, self.long, &mut from)?;
+        self.journal.cut(size);
         let answer = memory.come_up(clock);
         self.memory = Some(memory);
         Ok(answer)

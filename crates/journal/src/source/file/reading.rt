@@ -1,4 +1,4 @@
-ghost use Rattle.std.specs.Prelude.{◌≡◌, ◌≤◌, true, [], length, take, IfOk};
+ghost use Rattle.std.specs.Prelude.{◌≡◌, ◌≤◌, true, None, [], length, take, IfOk};
 
 use crate::source::Source;
 use crate::source::file::FileSource;
@@ -83,6 +83,8 @@ impl Source for FileSource {
     ghost had = { λ s. s.told.appended };
 
     ghost ended = { λ s. s.ended ≡ true };
+
+    ghost whole = { λ _. None };
 
     fn read(&mut self, block: &mut [u8]) -> Result<usize, StoreError> {
         let count = fetch(&mut self.file, block)?;

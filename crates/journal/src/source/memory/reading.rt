@@ -1,4 +1,4 @@
-ghost use Rattle.std.specs.Prelude.{◌≡◌, length, drop};
+ghost use Rattle.std.specs.Prelude.{◌≡◌, Some, length, drop};
 ghost use Rattle.journal.specs.Memory.{read_of};
 
 use crate::source::Source;
@@ -25,6 +25,8 @@ impl<'a> Source for MemorySource<'a> {
     ghost had = { read_of };
 
     ghost ended = { λ s. s.at ≡ length s.bytes.now };
+
+    ghost whole = { λ s. Some s.bytes.now };
 
     fn read(&mut self, block: &mut [u8]) -> Result<usize, StoreError> {
         let left = self.left();

@@ -3,8 +3,8 @@ use Rattle.std.proofs.lemmas.List.{length-drop}
 use Rattle.journal.proofs.Blocks.{came}
 use Rattle.journal.proofs.source.memory.reading.MemorySourceSource.read.Goals as goal
 
-pub returns : goal.returns
-returns c =
+pub returns-clause-bytes : goal.returns-clause-bytes
+returns-clause-bytes c =
     let n = c.min-count.result in
     let bs : List ℕ = c.args.self.now.bytes.now in
     let l : length c.left-left.result.now ≡ length bs - c.args.self.now.at = ap length c.left-left.ensures ∙ length-drop c.args.self.now.at bs in (
