@@ -1,3 +1,4 @@
 pub mod Start
 pub mod Prints
 pub mod Serving
+pub mod Loops

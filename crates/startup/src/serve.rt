@@ -3,13 +3,15 @@ ghost use Rattle.std.specs.Io.KnownBytes.{Appends};
 ghost use Rattle.std.specs.Process.{exit_status};
 ghost use Rattle.lines.specs.Outputs.{printed};
 ghost use Rattle.startup.specs.Serving.{HandedOn};
+ghost use Rattle.startup.specs.Loops.{Served};
 
 use crate::print::refused;
-use anyhow::Result;
+use anyhow::{Result, bail};
 use lines::input::{Input, Line};
 use lines::output::Output;
 use message::refusal::Refusal;
-use std::io::Write;
+use std::alloc::Global;
+use std::io::{Read, Write};
 use std::process::ExitCode;
 
 // So many bytes of answers leave together at most, and one line's more.
@@ -26,6 +28,9 @@ pub trait Answers {
     // all that its answers so far depend on is on the disk: they may leave
     ghost settled: { Self → Type 0 };
 
+    // what settling changes
+    ghost settles: { Self → Self → Type 0 };
+
     // what a line does: from what answered it and what was printed before, to what is printed and what answers the next line
     ghost does: { Self → (line printed_was printed_is : List ℕ) → Self → Type 0 };
 
@@ -38,6 +43,7 @@ pub trait Answers {
     /// Brings to the disk what the answers so far depend on.
     fn settle(&mut self) -> Result<()>
         ensures kept { OnOk result (keeps self.old → keeps self.new) }
+        ensures settled { OnOk result (settles self.old self.new) }
         ensures safe { OnOk result (settled self.new) };
 }
 
@@ -76,29 +82,40 @@ fn leave<A: Answers, W: Write>(to: &A, out: &mut Output, stdout: &mut W) -> Resu
     Ok(())
 }
 
-/// Hands on each line of standard input, and lets the answers leave before more has to be read: those of lines that are waiting
+/// Hands on each line of the input, once, and lets the answers leave before more has to be read: those of lines that are waiting
 /// together leave together, after one sync. A line that the end of the input cut short is refused.
-pub fn serve<A: Answers>(rt: &HostRuntime, to: &mut A) -> Result<()>
-    ensures { OnOk result (A.keeps to.old → A.keeps to.new) }
+pub fn serve_lines<A: Answers, R: Read, W: Write>(
+    heap: Global,
+    to: &mut A,
+    stdin: &mut R,
+    stdout: &mut W,
+) -> Result<()>
+    ensures kept { OnOk result (A.keeps to.old → A.keeps to.new) }
+    ensures served { OnOk result (Served A.does A.settles A.settled to.old to.new (W.contents stdout.old) (W.contents stdout.new)) }
 {
-    let mut stdin = rt.stdin();
-    let mut stdout = rt.stdout();
-    let mut input = Input::new(rt.alloc())?;
-    let mut out = Output::new(rt.alloc());
+    let mut input = Input::new(heap)?;
+    let mut out = Output::new(heap);
     let mut buffer = [0; ROOM];
     // A count stays: a loop without one would ask for a handle that may wait. 2^64 lines are more than any input has.
     for _ in 0..u64::MAX {
-        let Some(line) = input.next_line(&mut stdin)? else {
-            break;
+        let Some(line) = input.next_line(stdin)? else {
+            return Ok(());
         };
         let done = hand_on(to, line, input.line(), &mut buffer, &mut out);
         if done.is_err() || !input.has_line() || out.len() >= BATCH {
             to.settle()?;
-            leave(to, &mut out, &mut stdout)?;
+            leave(to, &mut out, stdout)?;
         }
         done?;
     }
-    Ok(())
+    bail!("there are more lines than can be counted")
+}
+
+/// Hands on each line of standard input to whom answers it, and writes the answers to standard output.
+pub fn serve<A: Answers>(rt: &HostRuntime, to: &mut A) -> Result<()>
+    ensures { OnOk result (A.keeps to.old → A.keeps to.new) }
+{
+    serve_lines(rt.alloc(), to, &mut rt.stdin(), &mut rt.stdout())
 }
 
 /// How a program ends: an error is one line on standard error, behind the program's name, and status 1.
