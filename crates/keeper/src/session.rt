@@ -126,6 +126,9 @@ impl<S: Store> Answers for Session<S> {
     // all of the journal is on the disk
     ghost settled = { λ s. (S.disk s.store).synced ≡ (S.disk s.store).appended };
 
+    // of all that it has only what is on the disk may change
+    ghost settles = { λ was is. (is.keeper ≡ was.keeper) × (is.up ≡ was.up) × (is.last ≡ was.last) × ((S.disk is.store).appended ≡ (S.disk was.store).appended) };
+
     // from its words to what is printed
     ghost does = { λ was line p q is. Done was is (S.disk was.store) (S.disk is.store) (heard_of (words line)) (take 1034 (message_in (words line))) p q };
 

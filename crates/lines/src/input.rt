@@ -1,4 +1,4 @@
-ghost use Rattle.std.specs.Prelude.{◌≤◌, vec_len};
+ghost use Rattle.std.specs.Prelude.{◌<◌, ◌≤◌, vec_len};
 
 pub mod reading;
 
@@ -20,6 +20,7 @@ pub struct Input {
     first: usize,
     last: usize,
     next: usize,
+    ghost room: { 0 < vec_len block },
     ghost line: { first ≤ last },
     ghost behind: { last ≤ next },
     ghost within: { next ≤ vec_len held },

@@ -50,6 +50,9 @@ impl Answers for Stage {
     // nothing of it is on a disk
     ghost settled = { λ s. Unit {0} };
 
+    // nothing
+    ghost settles = { λ was is. is ≡ was };
+
     // what the line says is played, and what is said of that is printed, behind the messages that it sent
     ghost does = { λ was line p q is. LineDone was.rehearsal is.rehearsal line q };
 

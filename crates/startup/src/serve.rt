@@ -91,7 +91,7 @@ pub fn serve_lines<A: Answers, R: Read, W: Write>(
     stdout: &mut W,
 ) -> Result<()>
     ensures kept { OnOk result (A.keeps to.old → A.keeps to.new) }
-    ensures served { OnOk result (Served A.does A.settles A.settled to.old to.new (W.contents stdout.old) (W.contents stdout.new)) }
+    ensures served { OnOk result (Served A.does A.settles A.settled to.old to.new (R.remaining stdin.old) (R.remaining stdin.new) (W.contents stdout.old) (W.contents stdout.new)) }
 {
     let mut input = Input::new(heap)?;
     let mut out = Output::new(heap);

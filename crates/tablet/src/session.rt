@@ -143,7 +143,7 @@ impl<S: Store> Session<S> {
 }
 
 impl<S: Store> Answers for Session<S> {
-    ghost use Rattle.std.specs.Prelude.{take};
+    ghost use Rattle.std.specs.Prelude.{◌≡◌, take};
     ghost use Rattle.lines.specs.Words.{words};
     ghost use Rattle.tablet.specs.Lines.{said_of, bytes_said};
     ghost use Rattle.tablet.specs.Sessions.{Done};
@@ -153,6 +153,9 @@ impl<S: Store> Answers for Session<S> {
 
     // each of its records is synced before the line is answered
     ghost settled = { λ s. Unit {0} };
+
+    // nothing
+    ghost settles = { λ was is. is ≡ was };
 
     // from its words to what is printed
     ghost does = { λ was line p q is. Done was is (said_of (words line)) (take 1034 (bytes_said (words line))) p q };

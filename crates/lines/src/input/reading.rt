@@ -1,7 +1,8 @@
 ghost use Rattle.std.specs.Prelude.{◌≡◌, ℕ, ◌+◌, ◌<◌, ◌≤◌, List, [], ◌++◌, length, take, drop, is_some, IfOk, MatchOption, if◌then◌else◌, None, vec_len};
 ghost use Rattle.std.specs.Option.{unwrap_or};
+ghost use Rattle.std.specs.Io.KnownBytes.{Consumes, IsAtEnd};
 ghost use Rattle.lines.specs.Words.{before, behind};
-ghost use Rattle.lines.specs.Inputs.{rest, line_of, Handed};
+ghost use Rattle.lines.specs.Inputs.{rest, line_of, Handed, HandedOut};
 
 use crate::input::{Input, Line};
 use crate::words::find;
@@ -98,7 +99,7 @@ impl Input {
 
     // Reads a block behind what is left, and says how many bytes came: none at the end of the input.
     fn fill<R: Read>(&mut self, from: &mut R) -> io::Result<usize>
-        ensures { IfOk result (λ n. (got : List ℕ) × (length got ≡ n) × (rest self.new ≡ rest self.old ++ got)) }
+        ensures { IfOk result (λ n. (got : List ℕ) × (length got ≡ n) × (rest self.new ≡ rest self.old ++ got) × Consumes (R.remaining from.old) (R.remaining from.new) got × (n ≡ 0 → IsAtEnd (R.remaining from.new))) }
     {
         // Where nothing was handed out since the last block, as within a long line, nothing moves.
         if self.next > 0 {
@@ -127,7 +128,7 @@ impl Input {
     /// Hands out the next line, reading on as needed, and says how it came; `line` then gives it.
     /// None where the input is over.
     pub fn next_line<R: Read>(&mut self, from: &mut R) -> io::Result<Option<Line>>
-        ensures { IfOk result (λ l. (got : List ℕ) × Handed l (rest self.old ++ got) (line_of self.new) (rest self.new)) }
+        ensures { IfOk result (λ l. HandedOut l (rest self.old) (R.remaining from.old) (R.remaining from.new) (line_of self.new) (rest self.new)) }
     {
         let mut seen = 0;
         // A count stays: a loop without one would ask for a handle that may wait.
