@@ -15,7 +15,8 @@ pub const MOST: usize = 4096;
 
 // Which of the 32 borrowers have a lease that stands in the way of a loan; none where no lease does.
 // One loop over the leases stays, which looks at each of them once: a search of the table for each borrower took 63 microseconds of a full
-// table, and this 2.
+// table, and this 2. It stays a function of its own when built: within the whole of what answers a line its loop lacks registers.
+#[inline(never)]
 fn barring(leases: &[Lease], clock: u64, ask: &Ask) -> Option<[bool; 32]>
     ensures { MatchOption result (list_any (barring_ask clock ask.now) leases.now ≡ false) (λ by. (list_any (barring_ask clock ask.now) leases.now ≡ true) × (by ≡ marks_of (barring_ask clock ask.now) leases.now)) }
 {
