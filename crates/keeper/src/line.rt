@@ -25,11 +25,8 @@ pub fn parse(line: &[u8], out: &mut [u8]) -> Option<Heard>
     let Some(rest) = more else {
         return Some(Heard { clock, size: None });
     };
-    let (text, more) = split(rest);
-    let None = more else {
-        return None;
-    };
-    let size = decode(text, out)?;
+    // The rest isn't split again: a space is no digit.
+    let size = decode(rest, out)?;
     Some(Heard {
         clock,
         size: Some(size),

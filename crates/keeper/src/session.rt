@@ -1,6 +1,5 @@
 use crate::line::{Heard, parse};
 use crate::print;
-use anyhow::Result;
 use journal::replay::OpenError;
 use journal::source::file::FileSource;
 use journal::store::Store;
@@ -8,6 +7,7 @@ use journal::store::file::FileStore;
 use lender::keeper::Keeper;
 use lines::output::Output;
 use message::refusal::Refusal;
+use startup::failure::Failure;
 use startup::print::refused;
 use startup::serve::{Answers, ROOM};
 use std::alloc::Global;
@@ -77,7 +77,7 @@ impl<S: Store> Session<S> {
     }
 
     // A message comes. Its record is in the journal, and not synced yet.
-    fn receive(&mut self, clock: u64, message: &[u8], out: &mut Output) -> Result<()>
+    fn receive(&mut self, clock: u64, message: &[u8], out: &mut Output) -> Result<(), Failure>
         ensures kept { OnOk result (OnDisk self.old.keeper (S.disk self.old.store).appended → OnDisk self.new.keeper (S.disk self.new.store).appended) }
         ensures is { OnOk result (Received self.old.keeper self.new.keeper (S.disk self.old.store) (S.disk self.new.store) clock message.now (printed out.old) (printed out.new)) }
         ensures rest { (self.new.last ≡ self.old.last) × (self.new.up ≡ self.old.up) }
@@ -87,7 +87,7 @@ impl<S: Store> Session<S> {
     }
 
     // What a line says, with what it wrote to the buffer.
-    fn act(&mut self, heard: Heard, buffer: &[u8; ROOM], out: &mut Output) -> Result<()>
+    fn act(&mut self, heard: Heard, buffer: &[u8; ROOM], out: &mut Output) -> Result<(), Failure>
         ensures kept { OnOk result (OnDisk self.old.keeper (S.disk self.old.store).appended → OnDisk self.new.keeper (S.disk self.new.store).appended) }
         ensures is { OnOk result ((m : List ℕ) → InFront 1034 heard.size buffer.now m → Acted self.old.keeper self.new.keeper (S.disk self.old.store) (S.disk self.new.store) heard.clock heard.size (take 1034 m) (printed out.old) (printed out.new)) }
         ensures rest { (self.new.last ≡ self.old.last) × (self.new.up ≡ self.old.up) }
@@ -99,7 +99,12 @@ impl<S: Store> Session<S> {
     }
 
     // A line comes.
-    fn line(&mut self, line: &[u8], buffer: &mut [u8; ROOM], out: &mut Output) -> Result<()>
+    fn line(
+        &mut self,
+        line: &[u8],
+        buffer: &mut [u8; ROOM],
+        out: &mut Output,
+    ) -> Result<(), Failure>
         ensures kept { OnOk result (OnDisk self.old.keeper (S.disk self.old.store).appended → OnDisk self.new.keeper (S.disk self.new.store).appended) }
         ensures is { OnOk result (Done self.old self.new (S.disk self.old.store) (S.disk self.new.store) (heard_of (words line.now)) (take 1034 (message_in (words line.now))) (printed out.old) (printed out.new)) }
     {
@@ -120,6 +125,8 @@ impl<S: Store> Answers for Session<S> {
     ghost use Rattle.keeper.specs.Lines.{message_in, heard_of};
     ghost use Rattle.keeper.specs.Sessions.{Done};
 
+    type Failure = Failure;
+
     // memory is what the journal replays to
     ghost keeps = { λ s. OnDisk s.keeper (S.disk s.store).appended };
 
@@ -133,11 +140,16 @@ impl<S: Store> Answers for Session<S> {
     ghost does = { λ was line p q is. Done was is (S.disk was.store) (S.disk is.store) (heard_of (words line)) (take 1034 (message_in (words line))) p q };
 
     // What the keeper sends and answers is printed.
-    fn answer(&mut self, line: &[u8], buffer: &mut [u8; ROOM], out: &mut Output) -> Result<()> {
+    fn answer(
+        &mut self,
+        line: &[u8],
+        buffer: &mut [u8; ROOM],
+        out: &mut Output,
+    ) -> Result<(), Failure> {
         self.line(line, buffer, out)
     }
 
-    fn settle(&mut self) -> Result<()> {
+    fn settle(&mut self) -> Result<(), Failure> {
         Ok(self.store.sync()?)
     }
 }

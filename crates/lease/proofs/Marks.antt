@@ -1,14 +1,11 @@
 -- A loop that marks, for each element, the place that the element marks if any.
 -- Assumes nothing.
-use Rattle.std.proofs.Common.{◌≡◌, ℕ, zero, suc, ◌+◌, ◌<◌, ◌≤◌, Bool, true, false, ◌||◌, ◌≢◌, List, [], ◌∷◌, length, map, get_or, drop, set, Some, None, refl, sym, ap, ◌∙◌, inl, inr, arith}
-use Rattle.std.proofs.lemmas.List.{at_drop_more, at_drop_all, length-set, get_or-set_same, get_or-set_other}
-use Rattle.std.proofs.lemmas.Bool.{cases_eq}
+use Rattle.std.proofs.Common.{◌≡◌, ℕ, ◌+◌, ◌<◌, ◌≤◌, Bool, true, false, ◌||◌, eqb, ◌≢◌, List, length, replicate, get_or, drop, set, refl, sym, ap, ◌∙◌, inl, inr, arith}
+use Rattle.std.proofs.lemmas.List.{at_drop_more, at_drop_all, length-set, get_or-replicate, get_or-set_same, get_or-set_other}
+use Rattle.std.proofs.lemmas.List.FromFn.{fill_by_all}
+use Rattle.std.proofs.lemmas.Bool.{and_from, and_left, and_right, cases_eq, eq-eqb, ne_eqb}
 use Rattle.std.proofs.Math.Bool.{or-false, or-true}
-use Rattle.std.specs.List.{list_any, position, position_or_len, range_with_len}
-use Rattle.std.proofs.lemmas.Grind.{common_steps}
-use Rattle.std.proofs.lemmas.List.{drop_all}
-use Rattle.std.proofs.lemmas.List.Sums.{fails_before_first}
-use Rattle.std.proofs.lemmas.List.Quantifiers.{position-Some}
+use Rattle.std.specs.List.{list_any}
 use Rattle.lease.specs.declared.lease.Lease.{Lease}
 use Rattle.lease.specs.Leases.{of_borrower, no_lease}
 use Rattle.lease.specs.Tables.{marks_of}
@@ -42,33 +39,51 @@ module _ {X : Type 0} {n : ℕ} {f : ℕ → X → Bool} {xs : List X} {ms : Lis
   pub marked_all : length xs ≤ i → Marked n f xs ms i → (w : ℕ) → w < n → get_or ms w false ≡ list_any (f w) xs
   marked_all h m w l = sym (or-false (get_or ms w false)) ∙ ap (λ b. get_or ms w false || b) (sym (at_drop_all (list_any (f w)) xs i h)) ∙ m.found w l
 
--- THE FIRST: what stands before the first element that passes p passes no test that is stricter
-from_first : {X : Type 0} (q p : X → Bool) → ((x : X) → p x ≡ false → q x ≡ false) → (d : X) (xs : List X) (i : ℕ) → ((k : ℕ) → k < i → p (get_or xs k d) ≡ false) → list_any q (drop i xs) ≡ list_any q xs
-from_first q p s d xs zero f = refl
-from_first q p s d [] (suc i) f = refl
-from_first q p s d (x ∷ xs) (suc i) f = from_first q p s d xs i (λ k h. f (suc k) (omega (arith, h))) ∙ rw (s x (f 0 (omega arith))) refl
-
-at_one : {X : Type 0} (p : X → Bool) (d : X) (xs : List X) (i : ℕ) → i < length xs → p (get_or xs i d) ≡ true → list_any p xs ≡ true
-at_one p d [] i l e = absurd (omega (arith, l))
-at_one p d (x ∷ xs) zero l e = rw e refl
-at_one p d (x ∷ xs) (suc i) l e = rw (at_one p d xs i (omega (arith, l)) e) (or-true (p x))
-
--- where the first lease stands that passes, one does, and the marks from it on are those of all
-pub at_first : (p : Lease → Bool) (ls : List Lease) (i : ℕ) → position p ls ≡ Some i → (list_any p ls ≡ true) × (marks_of p (drop i ls) ≡ marks_of p ls)
-unfolding marks_of
-at_first p ls i e =
-    let f = position-Some p ls i no_lease e in
-    (at_one p no_lease ls i f.0 f.1, λ j. map (λ w. from_first (of_borrower p w) p (λ x z. rw z refl) no_lease ls i f.2 j) (range_with_len 0 32))
-
--- and where there is no first one, none passes
-pub at_none : (p : Lease → Bool) (ls : List Lease) → position p ls ≡ None → list_any p ls ≡ false
-at_none p ls e =
-    sym (from_first p p (λ x h. h) no_lease ls (length ls) (λ k h. fails_before_first p ls k no_lease (omega (arith, h, beyond))))
-    ∙ ap (list_any p) (drop_all (length ls) ls (omega arith))
-  where
-    beyond : length ls ≤ position_or_len p ls
-    beyond = grind (arith, common_steps)
-
 pub marked_none : {X : Type 0} (n : ℕ) (f : ℕ → X → Bool) (xs : List X) (ms : List Bool) → length ms ≡ n
     → ((w : ℕ) → w < n → get_or ms w false ≡ false) → Marked n f xs ms 0
 marked_none n f xs ms h none = record { long = h; found = λ w l. rw (none w l) }
+
+past : (a b n : ℕ) → n ≤ a → b < n → eqb a b ≡ false
+past a b n h l = ne_eqb a b (λ e. omega arith)
+
+-- THE LEASES: of the first i it is known whether one passes p, and which borrowers those are of that do
+pub record Seen (p : Lease → Bool) (ls : List Lease) (found : Bool) (ms : List Bool) (i : ℕ) : Type 0 where
+  pub some : (found || list_any p (drop i ls)) ≡ list_any p ls
+  pub marked : Marked 32 (of_borrower p) ls ms i
+
+pub seen_none : (p : Lease → Bool) (ls : List Lease) → Seen p ls false (replicate 32 false) 0
+seen_none p ls = record { some = refl; marked = marked_none 32 (of_borrower p) ls (replicate 32 false) refl (λ w l. get_or-replicate 32 w false false l) }
+
+module _ {p : Lease → Bool} {ls : List Lease} {found : Bool} {ms : List Bool} {i : ℕ} where
+  -- the next one does not pass
+  pub seen_no : i < length ls → p (get_or ls i no_lease) ≡ false → Seen p ls found ms i → Seen p ls found ms (i + 1)
+  seen_no h no' s =
+      record {
+        some = ap (λ b. found || b) (sym (step p ls i no_lease h ∙ rw no')) ∙ s.some;
+        marked = marked_more_no no_lease h (λ w l. and_left _ _ no') s.marked;
+      }
+
+  -- it passes
+  met : i < length ls → p (get_or ls i no_lease) ≡ true → Seen p ls found ms i → true ≡ list_any p ls
+  met h yes' s = sym (sym s.some ∙ ap (λ b. found || b) (step p ls i no_lease h ∙ rw yes') ∙ or-true found)
+
+  pub seen_yes : i < length ls → p (get_or ls i no_lease) ≡ true → (get_or ls i no_lease).who < 32 → Seen p ls found ms i
+      → Seen p ls true (set ms (get_or ls i no_lease).who true) (i + 1)
+  seen_yes h yes' l s =
+      record {
+        some = met h yes' s;
+        marked = marked_more_yes no_lease _ h l (and_from _ _ yes' (eq-eqb _ _ refl)) (λ w ne. and_right _ _ (ne_eqb _ _ (λ e. ne (sym e)))) s.marked;
+      }
+
+  -- and is of none of the 32
+  pub seen_beyond : i < length ls → p (get_or ls i no_lease) ≡ true → 32 ≤ (get_or ls i no_lease).who → Seen p ls found ms i → Seen p ls true ms (i + 1)
+  seen_beyond h yes' g s =
+      record { some = met h yes' s; marked = marked_more_no no_lease h (λ w l. and_right _ _ (past _ w 32 g l)) s.marked }
+
+  -- all are known
+  pub seen_some : length ls ≤ i → Seen p ls found ms i → found ≡ list_any p ls
+  seen_some h s = sym (or-false found) ∙ ap (λ b. found || b) (sym (at_drop_all (list_any p) ls i h)) ∙ s.some
+
+  pub seen_marks : length ls ≤ i → Seen p ls found ms i → ms ≡ marks_of p ls
+  unfolding marks_of
+  seen_marks h s = fill_by_all (λ w. list_any (of_borrower p w) ls) ms 32 false s.marked.long (λ w l. marked_all h s.marked w l)

@@ -5,14 +5,15 @@ use message::kind::Kind;
 use part::head::Head;
 
 /// A lease of a part to a borrower, under the number of the ask, that runs while the keeper's clock is below `until`.
-// Plain numbers stay, and no head: so the leases of the code are those of the rules, which know no bounds.
+// Plain numbers stay, and no head: so the leases of the code are those of the rules, which know no bounds. The long ones come first:
+// fields lie in the order in which they stand here, and so a lease has 16 bytes.
 #[derive(Clone, Copy, Debug, PartialEq, Eq)]
 pub struct Lease {
-    pub who: u8,
-    pub place: u16,
-    pub kind: Kind,
-    pub number: u32,
     pub until: u64,
+    pub number: u32,
+    pub place: u16,
+    pub who: u8,
+    pub kind: Kind,
 }
 
 impl Lease {

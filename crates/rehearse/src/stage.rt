@@ -6,12 +6,12 @@ ghost use Rattle.rehearse.specs.Prints.{given_behind, said_behind, telling_behin
 
 use crate::print;
 use crate::rehearsal::{Rehearsal, Said};
-use anyhow::Result;
 use clock::terms::Terms;
 use lines::output::Output;
 use message::form::Message;
 use message::refusal::Refusal;
 use script::step::parse;
+use site::fault::Fault;
 use site::seen::{Answer, Seen, Shown};
 use startup::print::{answer, refused};
 use startup::serve::{Answers, ROOM};
@@ -44,6 +44,8 @@ impl Stage {
 }
 
 impl Answers for Stage {
+    type Failure = Fault;
+
     // the site was reached by events, the clocks within their error: so all that is promised of a run is so of it
     ghost keeps = { λ s. Reached s.rehearsal.site };
 
@@ -56,7 +58,12 @@ impl Answers for Stage {
     // what the line says is played, and what is said of that is printed, behind the messages that it sent
     ghost does = { λ was line p q is. LineDone was.rehearsal is.rehearsal line q };
 
-    fn answer(&mut self, line: &[u8], _buffer: &mut [u8; ROOM], out: &mut Output) -> Result<()> {
+    fn answer(
+        &mut self,
+        line: &[u8],
+        _buffer: &mut [u8; ROOM],
+        out: &mut Output,
+    ) -> Result<(), Fault> {
         let before = self.rehearsal.site.sent();
         let step = parse(line);
         let said = self.rehearsal.play(step)?;
@@ -67,7 +74,7 @@ impl Answers for Stage {
         Ok(say(said, out)?)
     }
 
-    fn settle(&mut self) -> Result<()> {
+    fn settle(&mut self) -> Result<(), Fault> {
         Ok(())
     }
 }

@@ -10,6 +10,7 @@ use lines::decimal::number;
 use std::error::Error;
 use std::fmt;
 
+pub mod failure;
 pub mod print;
 pub mod serve;
 

@@ -1,6 +1,5 @@
 use crate::line::{Act, Said, parse};
 use crate::print;
-use anyhow::Result;
 use borrower::outcome::Call;
 use borrower::tablet::Tablet;
 use journal::replay::OpenError;
@@ -11,6 +10,7 @@ use lines::output::Output;
 use message::refusal::Refusal;
 use part::place::Place;
 use part::who::Who;
+use startup::failure::Failure;
 use startup::print::refused;
 use startup::serve::{Answers, ROOM};
 use std::alloc::{AllocError, Global};
@@ -74,7 +74,7 @@ impl<S: Store> Session<S> {
     }
 
     // A message comes.
-    fn receive(&mut self, message: &[u8], out: &mut Output) -> Result<()>
+    fn receive(&mut self, message: &[u8], out: &mut Output) -> Result<(), Failure>
         ensures last { self.new.last ≡ self.old.last }
         ensures is { OnOk result (Received self.old.tablet self.new.tablet message.now (printed out.old) (printed out.new)) }
     {
@@ -107,7 +107,7 @@ impl<S: Store> Session<S> {
         place: Place,
         buffer: &[u8; ROOM],
         out: &mut Output,
-    ) -> Result<()>
+    ) -> Result<(), Failure>
         ensures last { self.new.last ≡ self.old.last }
         ensures is { OnOk result (Performed self.old.tablet self.new.tablet clock place.at call (take 1024 buffer.now) (printed out.old) (printed out.new)) }
     {
@@ -117,7 +117,7 @@ impl<S: Store> Session<S> {
     }
 
     // What a line asks for, with what it wrote to the buffer.
-    fn act(&mut self, said: Said, buffer: &[u8; ROOM], out: &mut Output) -> Result<()>
+    fn act(&mut self, said: Said, buffer: &[u8; ROOM], out: &mut Output) -> Result<(), Failure>
         ensures is { OnOk result ((m : List ℕ) → InFront 1034 said.act buffer.now m → Acted self.old.tablet self.new.tablet said.clock (plain said.act) (take 1034 m) (printed out.old) (printed out.new)) }
         ensures last { self.new.last ≡ self.old.last }
     {
@@ -129,7 +129,12 @@ impl<S: Store> Session<S> {
     }
 
     // A line comes.
-    fn line(&mut self, line: &[u8], buffer: &mut [u8; ROOM], out: &mut Output) -> Result<()>
+    fn line(
+        &mut self,
+        line: &[u8],
+        buffer: &mut [u8; ROOM],
+        out: &mut Output,
+    ) -> Result<(), Failure>
         ensures { OnOk result (Done self.old self.new (said_of (words line.now)) (take 1034 (bytes_said (words line.now))) (printed out.old) (printed out.new)) }
     {
         let Some(said) = parse(line, buffer) else {
@@ -148,6 +153,8 @@ impl<S: Store> Answers for Session<S> {
     ghost use Rattle.tablet.specs.Lines.{said_of, bytes_said};
     ghost use Rattle.tablet.specs.Sessions.{Done};
 
+    type Failure = Failure;
+
     // what a tablet keeps from one line to the next is said by its own contracts
     ghost keeps = { λ s. Unit {0} };
 
@@ -161,11 +168,16 @@ impl<S: Store> Answers for Session<S> {
     ghost does = { λ was line p q is. Done was is (said_of (words line)) (take 1034 (bytes_said (words line))) p q };
 
     // What the tablet sends, shows, is told and answers is printed.
-    fn answer(&mut self, line: &[u8], buffer: &mut [u8; ROOM], out: &mut Output) -> Result<()> {
+    fn answer(
+        &mut self,
+        line: &[u8],
+        buffer: &mut [u8; ROOM],
+        out: &mut Output,
+    ) -> Result<(), Failure> {
         self.line(line, buffer, out)
     }
 
-    fn settle(&mut self) -> Result<()> {
+    fn settle(&mut self) -> Result<(), Failure> {
         Ok(())
     }
 }
