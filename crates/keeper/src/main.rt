@@ -36,7 +36,7 @@ fn run(rt: &HostRuntime) -> anyhow::Result<()> {
     };
     let terms = terms(rate.as_bytes(), short.as_bytes(), long.as_bytes())?;
     let journal = FileSource::open(rt, path.as_str())?;
-    serve(rt, &mut Session::open(rt.alloc(), terms.long, journal)?)
+    serve(rt, &mut Session::open(rt.alloc(), terms, journal)?)
 }
 
 fn main(rt: HostRuntime) -> ExitCode {

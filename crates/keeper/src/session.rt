@@ -1,5 +1,6 @@
 use crate::line::{Heard, parse};
 use crate::print;
+use clock::terms::Terms;
 use journal::replay::OpenError;
 use journal::source::file::FileSource;
 use journal::store::Store;
@@ -25,15 +26,15 @@ impl Session<FileStore> {
     ghost use Rattle.std.specs.Prelude.{◌≡◌, [], IfOk};
     ghost use Rattle.keeper.specs.Started.{Started};
 
-    /// A keeper from the journal in a file, of which nothing was read yet. It is cut after its last whole record, on the disk too.
+    /// A keeper with these terms, from the journal in a file, of which nothing was read yet. It is cut after its last whole record, on the disk too.
     pub fn open(
         heap: Global,
-        long: u64,
+        terms: Terms,
         mut journal: FileSource,
     ) -> Result<Session<FileStore>, OpenError>
-        ensures { journal.told.appended ≡ [] → IfOk result (Started long) }
+        ensures { journal.told.appended ≡ [] → IfOk result (Started terms.long) }
     {
-        let (keeper, size) = Keeper::open(heap, long, &mut journal)?;
+        let (keeper, size) = Keeper::open(heap, terms.long, &mut journal)?;
         let store = journal.cut(size)?;
         Ok(Session::new(keeper, store))
     }

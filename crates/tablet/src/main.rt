@@ -46,10 +46,7 @@ fn run(rt: &HostRuntime) -> anyhow::Result<()> {
     let who = borrower(id.as_bytes()).context("BORROWER is a number from 0 to 31")?;
     let terms = terms(rate.as_bytes(), short.as_bytes(), long.as_bytes())?;
     let journal = FileSource::open(rt, path.as_str())?;
-    serve(
-        rt,
-        &mut Session::open(rt.alloc(), who, terms.short, journal)?,
-    )
+    serve(rt, &mut Session::open(rt.alloc(), who, terms, journal)?)
 }
 
 fn main(rt: HostRuntime) -> ExitCode {

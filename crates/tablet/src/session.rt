@@ -2,6 +2,7 @@ use crate::line::{Act, Said, parse};
 use crate::print;
 use borrower::outcome::Call;
 use borrower::tablet::Tablet;
+use clock::terms::Terms;
 use journal::replay::OpenError;
 use journal::source::file::FileSource;
 use journal::store::Store;
@@ -27,16 +28,16 @@ impl Session<FileStore> {
     ghost use Rattle.std.specs.Prelude.{◌≡◌, [], IfOk};
     ghost use Rattle.tablet.specs.Started.{Started};
 
-    /// A tablet from the journal in a file, of which nothing was read yet. It is cut after its last whole record, on the disk too.
+    /// A tablet with these terms, from the journal in a file, of which nothing was read yet. It is cut after its last whole record, on the disk too.
     pub fn open(
         heap: Global,
         who: Who,
-        short: u64,
+        terms: Terms,
         mut journal: FileSource,
     ) -> Result<Session<FileStore>, OpenError>
-        ensures { journal.told.appended ≡ [] → IfOk result (Started who short) }
+        ensures { journal.told.appended ≡ [] → IfOk result (Started who terms.short) }
     {
-        let (tablet, size) = Tablet::open(heap, who, short, &mut journal)?;
+        let (tablet, size) = Tablet::open(heap, who, terms.short, &mut journal)?;
         let store = journal.cut(size)?;
         Ok(Session::new(tablet, store))
     }

@@ -17,16 +17,16 @@ loop-preserved g c =
     let did = on_ok c.hand_on-done.result c.in_ok-done.field-0 _ c.hand_on-done.ensures.done c.in_ok-done.was in
     let kept = on_ok c.hand_on-done.result c.in_ok-done.field-0 _ c.hand_on-done.ensures.kept c.in_ok-done.was in
     let mid = handed D S R c.args.to.now c.loop.to _ _ _ _ left (printed c.loop.out) i.1 c.hand_on-done.new.to _ c.in-Some.line f.0 _ c.line.result.now _ now
-        (subst H c.in-Some.is f.1) c.line.ensures did f.2 in
+    (subst H c.in-Some.is f.1) c.line.ensures did f.2 in
     elim c.if-is_err.branch [
       | then-is_err+in_ok-settle+in_ok-leave w ↦ rw (w.to-is, w.stdout-is, w.out-is) (
-          λ k. w.in_ok-settle.ensures.kept (kept (i.0 k)),
-          gone D S R c.args.to.now c.hand_on-done.new.to _ _ _ _ (rest c.next_line.new.self) now mid w.settle.new.self _ _ w.in_ok-settle.ensures.settled w.in_ok-settle.ensures.safe w.in_ok-leave.ensures.gone w.in_ok-leave.ensures.left,
-          inl w.in_ok-leave.ensures.left,
-        )
+        λ k. w.in_ok-settle.ensures.kept (kept (i.0 k)),
+        gone D S R c.args.to.now c.hand_on-done.new.to _ _ _ _ (rest c.next_line.new.self) now mid w.settle.new.self _ _ w.in_ok-settle.ensures.settled w.in_ok-settle.ensures.safe w.in_ok-leave.ensures.gone w.in_ok-leave.ensures.left,
+        inl w.in_ok-leave.ensures.left,
+      )
       | else-is_err+else-not-has_line+else-len-ge-BATCH w ↦ rw (w.to-is, w.stdout-is, w.out-is) (
-          λ k. kept (i.0 k),
-          mid,
-          inr (search rules),
-        )
+        λ k. kept (i.0 k),
+        mid,
+        inr (search rules),
+      )
     ]

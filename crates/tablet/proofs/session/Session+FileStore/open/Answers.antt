@@ -10,7 +10,7 @@ returns c e =
     let size = c.in_ok-tablet.size in
     let k = c.in_ok-store.ensures in
     let has : (told c.in_ok-store.store.told).appended ≡ take size o.0 = k.0 ∙ ap (take size) (o.1 ∙ ap (λ (q : List ℕ). q ++ o.0) e) in
-    let Up : List ℕ → Type 0 = λ q. CameUp c.args.who c.args.short q c.in_ok-tablet.tablet in
-    let up = subst Up (sym has) (cut_too c.args.who c.args.short size o.0 c.in_ok-tablet.tablet o.2 o.3) in
+    let Up : List ℕ → Type 0 = λ q. CameUp c.args.who c.args.terms.short q c.in_ok-tablet.tablet in
+    let up = subst Up (sym has) (cut_too c.args.who c.args.terms.short size o.0 c.in_ok-tablet.tablet o.2 o.3) in
     let n = c.new.ensures in
     rw (n.0, n.1) record { up = up; safe = k.1; last = n.2 }
