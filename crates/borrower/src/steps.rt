@@ -38,11 +38,18 @@ impl Part {
         }
     }
 
+    /// Whether a copy is held that is no longer valid.
+    pub fn is_stale(self, time: Timing) -> bool
+        ensures { result ≡ stale time.clock time.short self.hold }
+    {
+        self.hold.is_some_and(|copy| copy.is_stale(time))
+    }
+
     /// Releases a copy that is no longer valid.
     pub fn settle(self, time: Timing) -> Part
         ensures { result ≡ settled time.clock time.short self }
     {
-        if self.hold.is_some_and(|copy| copy.is_stale(time)) {
+        if self.is_stale(time) {
             self.release()
         } else {
             self
@@ -82,12 +89,11 @@ impl Part {
         }
     }
 
-    /// Whether the copy may be shown.
-    pub fn show(self, time: Timing) -> (Part, Result<(), Refusal>)
-        ensures { result ≡ (settled time.clock time.short self, showing (settled time.clock time.short self).hold) }
+    /// Whether the copy of the part, which is settled, may be shown.
+    pub fn show(self) -> Result<(), Refusal>
+        ensures { result ≡ showing self.hold }
     {
-        let part = self.settle(time);
-        (part, part.hold.ok_or(Refusal::NoCopy).map(|_| ()))
+        self.hold.ok_or(Refusal::NoCopy).map(|_| ())
     }
 
     // The number of a write of the part, which is settled, or why it may not write.

@@ -77,7 +77,7 @@ fn clocks_at_their_edges(rt: HostRuntime) {
         (1100, Err(Refusal::NoCopy)),
         (u64::MAX, Err(Refusal::NoCopy)),
     ] {
-        let (_, result) = part(1, 0, copy).show(at(clock));
+        let result = part(1, 0, copy).settle(at(clock)).show();
         assert_eq!(rt; result, answer);
     }
     let (_, result) = part(1, 0, None).ask(at(u64::MAX - 100));

@@ -8,6 +8,7 @@ use crate::outcome::{Call, Outcome};
 use crate::tablet::Tablet;
 use message::form::{Ask, Message};
 use message::kind::Kind;
+use message::refusal::Refusal;
 use part::head::Head;
 use part::place::Place;
 
@@ -44,8 +45,13 @@ impl Tablet {
         ensures effect { (v : List ℕ) → effect v result ≡ show_effect place.at clock self.old.short (part_at self.old place.at) (filed_at self.old place.at) }
         ensures left { Stepped self.old self.new place.at (settled clock self.old.short (part_at self.old place.at)) }
     {
-        let (next, answer) = self.part(place).show(self.timing(clock));
-        Outcome::answering(self.keep(place, next), answer)
+        let part = self.part(place);
+        // A copy is shown again and again: while it is valid, nothing of the part is compared or written.
+        if !part.is_stale(self.timing(clock)) {
+            return Outcome::answering(None, part.show());
+        }
+        let record = self.keep(place, part.release());
+        Outcome::answering(record, Err(Refusal::NoCopy))
     }
 
     /// Writes a part. The bytes go out beside the message, and the copy is released.
