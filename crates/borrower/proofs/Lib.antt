@@ -1,2 +1,4 @@
 pub mod Used
 pub mod Opened
+pub mod OnDisk
+pub mod Plain

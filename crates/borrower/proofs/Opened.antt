@@ -6,7 +6,7 @@ use Rattle.std.proofs.lemmas.Bool.{cond_both}
 use Rattle.part.specs.declared.who.Who.{Who}
 use Rattle.part.specs.Parts.{at_1, blank}
 use Rattle.journal.specs.declared.record.Owner.TheVariants.{Borrower}
-use Rattle.journal.specs.Records.{Rec, Applied, VoidUpTo, Numbers}
+use Rattle.journal.specs.Records.{Rec, Applied, VoidUpTo, Numbers, bytes_of}
 use Rattle.journal.specs.Reading.{Cut}
 use Rattle.journal.specs.Replays.{Through}
 use Rattle.journal.proofs.Readers.{cut_once}
@@ -16,7 +16,8 @@ use Rattle.borrower.specs.declared.tablet.Tablet.{Tablet}
 use Rattle.borrower.specs.Steps.{risen}
 use Rattle.borrower.specs.Tablets.{part_at, filed_at, copy_at, no_numbers}
 use Rattle.borrower.specs.Outcomes.{Reread}
-use Rattle.borrower.specs.Opened.{said, CameUp}
+use Rattle.borrower.specs.OnDisk.{said, OnDisk}
+use Rattle.borrower.specs.Opened.{CameUp}
 
 -- so many records on
 pub record Came (w : Who) (s : ℕ) (fs : ℕ → OnFile) (t : Tablet) : Type 0 where
@@ -55,3 +56,9 @@ cut_too w s n bs t c u = record {
   short = u.short;
   who = u.who;
 }
+
+-- and that says what it has on file
+pub on_disk : (w : Who) (s n : ℕ) (bs : List ℕ) (t : Tablet) → Cut Borrower bs n → CameUp w s bs t → OnDisk t (take n bs)
+on_disk w s n bs t c u =
+    let same = (cut_once Borrower bs n c).0 in
+    record { whole = ap bytes_of same ∙ sym c.front; says = u.filed ∙ ap (λ (rs : List Rec). said rs (λ q. no_numbers)) (sym same) }

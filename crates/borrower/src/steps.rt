@@ -58,7 +58,7 @@ impl Part {
 
     // The number of an ask of the part, which is settled, or why it may not ask.
     fn next_ask(self, time: Timing) -> Result<u32, Refusal>
-        ensures { MatchResult result (λ n. (n ≡ self.ask + 1) × (ask_of time.clock time.short self ≡ (asking time.clock self, Ok (record { number = n; written = self.write })))) (λ e. ask_of time.clock time.short self ≡ (self, Err e)) }
+        ensures { MatchResult result (λ n. ask_of time.clock time.short self ≡ (asking time.clock self, Ok (record { number = n; written = self.write }))) (λ e. ask_of time.clock time.short self ≡ (self, Err e)) }
     {
         if self.hold.is_some() {
             return Err(Refusal::HoldsCopy);
@@ -98,7 +98,7 @@ impl Part {
 
     // The number of a write of the part, which is settled, or why it may not write.
     fn next_write(self) -> Result<u32, Refusal>
-        ensures { MatchResult result (λ n. (n ≡ self.write + 1) × (write_of self ≡ (wrote self, Ok n))) (λ e. write_of self ≡ (self, Err e)) }
+        ensures { MatchResult result (λ n. write_of self ≡ (wrote self, Ok n)) (λ e. write_of self ≡ (self, Err e)) }
     {
         let copy = self.hold.ok_or(Refusal::NoCopy)?;
         if copy.kind == Kind::Reading {

@@ -8,6 +8,7 @@ use Rattle.lender.specs.declared.keeper.Keeper.{Keeper}
 use Rattle.lender.specs.Book.{keeper_book}
 use Rattle.lender.specs.OnDisk.{OnDisk}
 use Rattle.borrower.specs.declared.tablet.Tablet.{Tablet}
+use Rattle.borrower.specs.OnDisk as tablets
 use Rattle.borrower.specs.Opened.{CameUp}
 use Rattle.capi.specs.declared.machine.Machine.{Machine}
 use Rattle.capi.specs.declared.machine.Machine.TheVariants as holds
@@ -40,11 +41,12 @@ KeeperOpens None (Some (holds.Keeper x)) l bs (Ok n) = KeeperOf bs l x.keeper n 
 KeeperOpens None (Some (holds.Tablet t)) l bs (Ok n) = ⊥
 KeeperOpens None is l bs (Err e) = (is ≡ None) × NotOpened owner.Keeper bs e
 
--- a tablet that came up from the whole records, and how many bytes these have
+-- a tablet that came up from the whole records, which say what it has on file, and how many bytes these have
 pub record TabletOf (journal : List ℕ) (w s : ℕ) (t : Tablet) (n : ℕ) : Type 0 where
   pub cut : Cut owner.Borrower journal n
   pub who : t.who.id ≡ w
   pub came : CameUp t.who s journal t
+  pub kept : tablets.OnDisk t (take n journal)
 
 -- of bytes that are a journal it gives a tablet; other bytes are refused
 abbrev pub TabletFrom : (journal : List ℕ) → (who short : ℕ) → Result (Tablet × ℕ) Misuse → Type 0

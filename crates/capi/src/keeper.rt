@@ -1,6 +1,6 @@
 ghost use Rattle.std.specs.Prelude.{◌≡◌, ◌≤◌, length};
 ghost use Rattle.message.specs.Reading.{read};
-ghost use Rattle.journal.specs.Records.{bytes_of};
+ghost use Rattle.journal.specs.Records.{AllFormed, bytes_of};
 ghost use Rattle.lender.specs.Book.{keeper_book, keeper_parts};
 ghost use Rattle.lender.specs.Replies.{sent_by, recorded_by, heard_effect, heard_book, heard_parts};
 ghost use Rattle.capi.specs.Buffers.{Wrote, Row};
@@ -34,7 +34,8 @@ fn put_sends(keeper: &Keeper, sends: Sends, out: &mut [u8]) -> Sent
 // Writes the record of a reply, if there is one.
 fn put_filed(keeper: &Keeper, record: Option<Record>, out: &mut [u8]) -> usize
     requires { 1032 ≤ length out.old }
-    ensures { Wrote (bytes_of (recorded_by (keeper_parts keeper.now) «record»)) result out.old out.new }
+    ensures wrote { Wrote (bytes_of (recorded_by (keeper_parts keeper.now) «record»)) result out.old out.new }
+    ensures formed { AllFormed (recorded_by (keeper_parts keeper.now) «record») }
 {
     match record {
         None => 0,

@@ -1,6 +1,6 @@
 ghost use Rattle.std.specs.Prelude.{◌+◌, ◌*◌, ◌≤◌, length};
 ghost use Rattle.journal.specs.Logs.{logged};
-ghost use Rattle.journal.specs.Records.{bytes_of};
+ghost use Rattle.journal.specs.Records.{AllFormed, bytes_of};
 ghost use Rattle.borrower.specs.Outcomes.{sent_by};
 ghost use Rattle.lender.specs.Rules.{recalls};
 ghost use Rattle.capi.specs.Buffers.{Wrote, Row};
@@ -13,7 +13,8 @@ use part::who::Who;
 /// Writes the record, if there is one, with the bytes of `part` where a part is applied: how many bytes these are.
 pub fn put_record(record: Option<Record>, part: &[u8; 1024], out: &mut [u8]) -> usize
     requires { 1032 ≤ length out.old }
-    ensures { Wrote (bytes_of (logged part.now «record»)) result out.old out.new }
+    ensures wrote { Wrote (bytes_of (logged part.now «record»)) result out.old out.new }
+    ensures formed { AllFormed (logged part.now «record») }
 {
     match record {
         Some(record) => journal::record::encode(&record, part, out).unwrap(),

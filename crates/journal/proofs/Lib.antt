@@ -5,5 +5,6 @@ pub mod Readers
 pub mod Saves
 pub mod Turns
 pub mod Told
+pub mod Grown
 pub mod Through
 pub mod Blocks

@@ -44,6 +44,10 @@ WellFormed (Applied w q n v) = Named w q n × (length v ≡ 1024)
 WellFormed (VoidUpTo w q n) = Named w q n
 WellFormed (Numbers q a w) = (q < 16384) × (a < 4294967296) × (w < 4294967296)
 
+abbrev pub AllFormed : List Rec → Type 0
+AllFormed [] = Unit {0}
+AllFormed (r ∷ rs) = WellFormed r × AllFormed rs
+
 -- it is of a kind that stands in this owner's journal
 abbrev pub Kept : Owner → Rec → Type 0
 Kept Keeper (Applied w q n v) = Unit {0}

@@ -33,4 +33,4 @@ abbrev pub unopened_text : OpenError → List ℕ
 unopened_text why.NoMemory = codes "there is no memory for the parts"
 unopened_text (why.Malformed owner.Keeper) = codes "FILE is no journal of a keeper; it is left as it is"
 unopened_text (why.Malformed owner.Borrower) = codes "FILE is no journal of a borrower; it is left as it is"
-unopened_text (why.Store e) = codes "FILE could not be cut and synced"
+unopened_text (why.Store e) = codes "FILE could not be read, cut or synced"

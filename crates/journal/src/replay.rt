@@ -22,7 +22,7 @@ pub enum OpenError {
     NoMemory,
     /// something in it is neither torn nor a record of this owner's
     Malformed(Owner),
-    /// it could not be cut and synced
+    /// it could not be read, cut or synced
     Store(StoreError),
 }
 
@@ -42,7 +42,7 @@ impl fmt::Display for OpenError {
             OpenError::Malformed(Owner::Borrower) => {
                 "FILE is no journal of a borrower; it is left as it is"
             }
-            OpenError::Store(_) => "FILE could not be cut and synced",
+            OpenError::Store(_) => "FILE could not be read, cut or synced",
         })
     }
 }
@@ -109,7 +109,7 @@ pub fn read_through<S: Source, R: Journaled>(
     from: &mut S,
     into: &mut R,
 ) -> Result<usize, OpenError>
-    ensures whole { S.whole from.new ≡ S.whole from.old }
+    ensures all { S.all from.new ≡ S.all from.old }
     ensures through { ReadThrough R.becomes owner (S.had from.old) (S.had from.new) into.old into.new result }
     ensures ended { OnOk result (S.ended from.new) }
 {

@@ -15,10 +15,10 @@ pub trait Source {
     ghost ended: { Self → Type 0 };
 
     // all that it has, where that is known before it is read
-    ghost whole: { Self → Option (List ℕ) };
+    ghost all: { Self → Option (List ℕ) };
 
     /// Reads on, into the first bytes of the block, and says how many bytes came: none only at the end of the file.
     fn read(&mut self, block: &mut [u8]) -> Result<usize, StoreError>
-        ensures whole { whole self.new ≡ whole self.old }
+        ensures all { all self.new ≡ all self.old }
         ensures bytes { Fetched (had self.old) (had self.new) (ended self.new) (length block.old) block.new result };
 }

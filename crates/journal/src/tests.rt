@@ -289,7 +289,7 @@ impl<'a> Source for FailingSource<'a> {
 
     ghost ended = { λ s. s.from.at ≡ length s.from.bytes.now };
 
-    ghost whole = { λ s. Some s.from.bytes.now };
+    ghost all = { λ s. Some s.from.bytes.now };
 
     fn read(&mut self, block: &mut [u8]) -> Result<usize, StoreError> {
         self.left = self.left.checked_sub(1).ok_or(StoreError::Failed)?;

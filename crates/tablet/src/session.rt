@@ -48,6 +48,7 @@ impl<S: Store> Session<S> {
     ghost use Rattle.lines.specs.Outputs.{printed};
     ghost use Rattle.lines.specs.Words.{words};
     ghost use Rattle.borrower.specs.Tablets.{copy_at};
+    ghost use Rattle.borrower.specs.OnDisk.{OnDisk};
     ghost use Rattle.tablet.specs.Prints.{showing_behind};
     ghost use Rattle.tablet.specs.Lines.{plain, said_of, bytes_said, InFront};
     ghost use Rattle.tablet.specs.Sessions.{ReadAt, Received, Performed, Acted, Done};
@@ -77,7 +78,8 @@ impl<S: Store> Session<S> {
     // A message comes.
     fn receive(&mut self, message: &[u8], out: &mut Output) -> Result<(), Failure>
         ensures last { self.new.last ≡ self.old.last }
-        ensures is { OnOk result (Received self.old.tablet self.new.tablet message.now (printed out.old) (printed out.new)) }
+        ensures kept { OnOk result (OnDisk self.old.tablet (S.disk self.old.store).appended → OnDisk self.new.tablet (S.disk self.new.store).appended) }
+        ensures is { OnOk result (Received self.old.tablet self.new.tablet (S.disk self.old.store) (S.disk self.new.store) message.now (printed out.old) (printed out.new)) }
     {
         let outcome = self.tablet.hear(&mut self.store, message)?;
         Ok(print::outcome(out, outcome, &[0; 1024])?)
@@ -110,7 +112,8 @@ impl<S: Store> Session<S> {
         out: &mut Output,
     ) -> Result<(), Failure>
         ensures last { self.new.last ≡ self.old.last }
-        ensures is { OnOk result (Performed self.old.tablet self.new.tablet clock place.at call (take 1024 buffer.now) (printed out.old) (printed out.new)) }
+        ensures kept { OnOk result (OnDisk self.old.tablet (S.disk self.old.store).appended → OnDisk self.new.tablet (S.disk self.new.store).appended) }
+        ensures is { OnOk result (Performed self.old.tablet self.new.tablet (S.disk self.old.store) (S.disk self.new.store) clock place.at call (take 1024 buffer.now) (printed out.old) (printed out.new)) }
     {
         let outcome = self.tablet.call(&mut self.store, clock, place, call)?;
         self.show(call, place, outcome.answer, out)?;
@@ -119,7 +122,8 @@ impl<S: Store> Session<S> {
 
     // What a line asks for, with what it wrote to the buffer.
     fn act(&mut self, said: Said, buffer: &[u8; ROOM], out: &mut Output) -> Result<(), Failure>
-        ensures is { OnOk result ((m : List ℕ) → InFront 1034 said.act buffer.now m → Acted self.old.tablet self.new.tablet said.clock (plain said.act) (take 1034 m) (printed out.old) (printed out.new)) }
+        ensures kept { OnOk result (OnDisk self.old.tablet (S.disk self.old.store).appended → OnDisk self.new.tablet (S.disk self.new.store).appended) }
+        ensures is { OnOk result ((m : List ℕ) → InFront 1034 said.act buffer.now m → Acted self.old.tablet self.new.tablet (S.disk self.old.store) (S.disk self.new.store) said.clock (plain said.act) (take 1034 m) (printed out.old) (printed out.new)) }
         ensures last { self.new.last ≡ self.old.last }
     {
         match said.act {
@@ -136,7 +140,8 @@ impl<S: Store> Session<S> {
         buffer: &mut [u8; ROOM],
         out: &mut Output,
     ) -> Result<(), Failure>
-        ensures { OnOk result (Done self.old self.new (said_of (words line.now)) (take 1034 (bytes_said (words line.now))) (printed out.old) (printed out.new)) }
+        ensures kept { OnOk result (OnDisk self.old.tablet (S.disk self.old.store).appended → OnDisk self.new.tablet (S.disk self.new.store).appended) }
+        ensures is { OnOk result (Done self.old self.new (S.disk self.old.store) (S.disk self.new.store) (said_of (words line.now)) (take 1034 (bytes_said (words line.now))) (printed out.old) (printed out.new)) }
     {
         let Some(said) = parse(line, buffer) else {
             return Ok(refused(out, Refusal::Malformed)?);
@@ -151,22 +156,23 @@ impl<S: Store> Session<S> {
 impl<S: Store> Answers for Session<S> {
     ghost use Rattle.std.specs.Prelude.{◌≡◌, take};
     ghost use Rattle.lines.specs.Words.{words};
+    ghost use Rattle.borrower.specs.OnDisk.{OnDisk};
     ghost use Rattle.tablet.specs.Lines.{said_of, bytes_said};
     ghost use Rattle.tablet.specs.Sessions.{Done};
 
     type Failure = Failure;
 
-    // what a tablet keeps from one line to the next is said by its own contracts
-    ghost keeps = { λ s. Unit {0} };
+    // its journal says the numbers that it has on file
+    ghost keeps = { λ s. OnDisk s.tablet (S.disk s.store).appended };
 
-    // each of its records is synced before the line is answered
-    ghost settled = { λ s. Unit {0} };
+    // all of the journal is on the disk
+    ghost settled = { λ s. (S.disk s.store).synced ≡ (S.disk s.store).appended };
 
-    // nothing
-    ghost settles = { λ was is. is ≡ was };
+    // of all that it has only what is on the disk may change
+    ghost settles = { λ was is. (is.tablet ≡ was.tablet) × (is.last ≡ was.last) × ((S.disk is.store).appended ≡ (S.disk was.store).appended) };
 
     // from its words to what is printed
-    ghost does = { λ was line p q is. Done was is (said_of (words line)) (take 1034 (bytes_said (words line))) p q };
+    ghost does = { λ was line p q is. Done was is (S.disk was.store) (S.disk is.store) (said_of (words line)) (take 1034 (bytes_said (words line))) p q };
 
     // What the tablet sends, shows, is told and answers is printed.
     fn answer(
@@ -178,7 +184,8 @@ impl<S: Store> Answers for Session<S> {
         self.line(line, buffer, out)
     }
 
+    // Each of its records was synced before its line was answered: the system is not asked again.
     fn settle(&mut self) -> Result<(), Failure> {
-        Ok(())
+        Ok(self.store.sync()?)
     }
 }

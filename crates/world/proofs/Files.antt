@@ -1,44 +1,26 @@
 -- Journals: what records they have after some were appended, whole or torn.
 -- Assumes nothing.
-use Rattle.std.proofs.Common.{◌≡◌, ℕ, ◌<◌, Bool, true, false, cond, eqb, leb, List, [], ◌∷◌, ◌++◌, length, take, drop, Some, sym, refl, ap, ◌∙◌, subst, append_assoc, append-nil, arith}
+use Rattle.std.proofs.Common.{◌≡◌, ℕ, ◌<◌, Bool, true, false, cond, eqb, leb, List, [], ◌∷◌, ◌++◌, length, take, drop, Some, sym, refl, ap, ◌∙◌, subst, append-nil, arith}
 use Rattle.std.proofs.lemmas.List.{take_all, drop_at, length-replicate}
 use Rattle.std.proofs.lemmas.Bool.{cond_both, leb-true, leb-false, lt-ltb}
-use Rattle.part.specs.Parts.{at_1, blank}
+use Rattle.part.specs.Parts.{blank}
 use Rattle.journal.specs.declared.record.Owner.{Owner}
 use Rattle.journal.specs.declared.record.Owner.TheVariants as owner
 use Rattle.journal.specs.Records.{Rec, Applied, VoidUpTo, Numbers, layout, Sound, AllSound, bytes_of, Torn, records_of, rest_of}
-use Rattle.journal.proofs.Journals.{front_is_records, read_back, torn_end, torn_leaves}
-use Rattle.lender.specs.Replay.{Memory, redo, replay, nothing}
-use Rattle.borrower.specs.declared.hold.Part.{Part}
-use Rattle.borrower.specs.declared.hold.OnFile.{OnFile}
-use Rattle.borrower.specs.Steps.{kept_of}
-use Rattle.borrower.specs.Opened.{said}
-use Rattle.borrower.specs.Outcomes.{due, filed_after}
-use Rattle.borrower.specs.Outcomes.{records_of as numbers_due}
+use Rattle.journal.proofs.Journals.{front_is_records, torn_end, torn_leaves}
+use Rattle.journal.proofs.Grown.{read_all}
+use Rattle.journal.proofs.Grown as grown
+use Rattle.lender.specs.Replay.{Memory, replay, nothing}
 use Rattle.world.specs.World.{recovered, torn_file}
 use Rattle.world.specs.Runs.{Put, puts, whole}
 
 -- FOLDS over records that are appended
-
-pub replay_append : (rs ss : List Rec) (s : Memory) → replay (rs ++ ss) s ≡ replay ss (replay rs s)
-replay_append [] ss s = refl
-replay_append (r ∷ rs) ss s = replay_append rs ss (redo r s)
 
 pub puts_append : (rs ss : List Rec) (h : List Put) → puts (rs ++ ss) h ≡ puts ss (puts rs h)
 puts_append [] ss h = refl
 puts_append (Applied i q n v ∷ rs) ss h = puts_append rs ss _
 puts_append (VoidUpTo i q n ∷ rs) ss h = puts_append rs ss h
 puts_append (Numbers q a w ∷ rs) ss h = puts_append rs ss h
-
-pub said_append : (rs ss : List Rec) (fs : ℕ → OnFile) → said (rs ++ ss) fs ≡ said ss (said rs fs)
-said_append [] ss fs = refl
-said_append (Applied i q n v ∷ rs) ss fs = said_append rs ss fs
-said_append (VoidUpTo i q n ∷ rs) ss fs = said_append rs ss fs
-said_append (Numbers q a w ∷ rs) ss fs = said_append rs ss _
-
-bytes_append : (rs ss : List Rec) → bytes_of (rs ++ ss) ≡ bytes_of rs ++ bytes_of ss
-bytes_append [] ss = refl
-bytes_append (r ∷ rs) ss = ap (λ (q : List ℕ). layout r ++ q) (bytes_append rs ss) ∙ sym (append_assoc (layout r) (bytes_of rs) (bytes_of ss))
 
 -- A JOURNAL
 
@@ -56,21 +38,18 @@ Few (r ∷ s ∷ rs) = ⊥
 rest_is : (o : Owner) (rs : List Rec) (t : List ℕ) → records_of o (bytes_of rs ++ t) ≡ rs → rest_of o (bytes_of rs ++ t) ≡ t
 rest_is o rs t e = ap (λ (x : List Rec). drop (length (bytes_of x)) (bytes_of rs ++ t)) e ∙ drop_at (bytes_of rs) t (length (bytes_of rs)) refl
 
-all : (o : Owner) (rs : List Rec) → AllSound o rs → records_of o (bytes_of rs) ≡ rs
-all o rs h = ap (records_of o) (sym (append-nil (bytes_of rs))) ∙ torn_end o rs h [] tt
-
 -- a journal of whole records and nothing else
 pub cut_journal : (o : Owner) (up : Bool) (file : List ℕ) → (records_of o (bytes_of (records_of o file)) ≡ records_of o file) × Journal o up (bytes_of (records_of o file))
 cut_journal o up file =
     let rs = records_of o file in
-    let e = all o rs (front_is_records o file).0 in
+    let e = read_all o rs (front_is_records o file).0 in
     let e' : records_of o (bytes_of rs ++ []) ≡ rs = torn_end o rs (front_is_records o file).0 [] tt in
     (e, record { torn = subst (λ (x : List ℕ). Torn o (rest_of o x)) (append-nil (bytes_of rs)) (subst (Torn o) (sym (rest_is o rs [] e')) tt); whole = λ u. ap bytes_of e })
 
 -- a journal that has nothing
 pub empty_journal : (o : Owner) → (records_of o [] ≡ []) × Journal o false []
 empty_journal o =
-    let e = all o [] tt in
+    let e = read_all o [] tt in
     (e, record { torn = subst (Torn o) (sym (rest_is o [] [] e)) tt; whole = λ u. let z : ◌≡◌ {A = ℕ} 0 1 = cc in absurd (omega arith) })
 
 stopped_journal : (o : Owner) (file : List ℕ) (up : Bool) → Journal o up file → Journal o false file
@@ -84,12 +63,11 @@ module _ (o : Owner) (file : List ℕ) (is : bytes_of (records_of o file) ≡ fi
   sound = (front_is_records o file).0
 
   pub grown_records : (rs : List Rec) → AllSound o rs → records_of o (file ++ bytes_of rs) ≡ R ++ rs
-  grown_records rs h = ap (λ (x : List ℕ). records_of o (x ++ bytes_of rs)) (sym is) ∙ read_back o R sound (bytes_of rs) ∙ ap (λ (q : List Rec). R ++ q) (all o rs h)
+  grown_records rs h = grown.grown_records o file (file ++ bytes_of rs) rs is h refl
 
   pub grown_journal : (rs : List Rec) → AllSound o rs → Journal o true (file ++ bytes_of rs)
   grown_journal rs h =
-      let e = grown_records rs h in
-      let b : bytes_of (records_of o (file ++ bytes_of rs)) ≡ file ++ bytes_of rs = ap bytes_of e ∙ bytes_append R rs ∙ ap (λ (x : List ℕ). x ++ bytes_of rs) is in
+      let b : bytes_of (records_of o (file ++ bytes_of rs)) ≡ file ++ bytes_of rs = grown.grown_whole o file (file ++ bytes_of rs) rs is h refl in
       record { torn = subst (λ (x : List ℕ). Torn o (rest_of o x)) b (cut_journal o true (file ++ bytes_of rs)).1.torn; whole = λ u. b }
 
   -- a stop leaves the records before, and those that are there whole
@@ -114,14 +92,6 @@ module _ (o : Owner) (file : List ℕ) (is : bytes_of (records_of o file) ≡ fi
       (grown_records [] tt ∙ sym (cond_both (leb 0 n) [] [] (λ (x : List Rec). R ++ x ≡ R ++ []) (λ e. refl) (λ e. refl)), stopped_journal o (file ++ []) true (grown_journal [] tt))
   torn_records (r ∷ []) h f n = torn_one r h.0 n (leb (length (bytes_of (r ∷ []))) n) refl
   torn_records (r ∷ s ∷ rs) h f n = absurd f
-
--- a borrower's journal says the numbers that it has on file
-pub said_due : (q : ℕ) (p p' : Part) (fs : ℕ → OnFile) → said (numbers_due q p (fs q) p') fs ≡ filed_after q p p' fs
-said_due q p p' fs = go (due p (fs q) p')
-  where
-    go : (b : Bool) → said (cond b (Numbers q (kept_of (fs q) p').ask (kept_of (fs q) p').write ∷ []) []) fs ≡ cond b (at_1 q (kept_of (fs q) p') fs) fs
-    go true = refl
-    go false = refl
 
 -- every part that the keeper has is 1,024 bytes long
 blank_long : (q : ℕ) → q < 16384 → length (blank q) ≡ 1024

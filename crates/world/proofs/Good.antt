@@ -11,20 +11,21 @@ use Rattle.lender.specs.Replay.{memory}
 use Rattle.borrower.specs.declared.hold.Part.{Part}
 use Rattle.borrower.specs.declared.hold.OnFile.{OnFile}
 use Rattle.borrower.specs.Steps.{last_number, rounded, kept_of, risen}
-use Rattle.borrower.specs.Opened.{said}
+use Rattle.borrower.specs.OnDisk.{said, numbers_in}
 use Rattle.borrower.specs.Tablets.{no_numbers}
 use Rattle.borrower.specs.Outcomes.{due}
 use Rattle.borrower.specs.Outcomes.{records_of as numbers_due}
 use Rattle.borrower.specs.Used.{Near, on_file}
 use Rattle.borrower.proofs.Used.{filed_up, Small}
-use Rattle.world.specs.World.{World, Lender, Borrower, with_borrower, with_sent, numbers_in, borrower_down, borrower_up, torn_file, recovered}
+use Rattle.world.specs.World.{World, Lender, Borrower, with_borrower, with_sent, borrower_down, borrower_up, torn_file, recovered}
 use Rattle.world.specs.Runs.{Put, puts, Run, whole}
 use Rattle.world.proofs.Inv.{Setting, Inv, Moved, moved_refl, Each, Held}
 use Rattle.world.proofs.Move.{rise_moves, none_held}
 use Rattle.world.proofs.Borrow.{at_both, held_more}
 use Rattle.world.proofs.View.{view, stepped, one_moves, filed_is}
 use Rattle.world.proofs.Calls.{nobody}
-use Rattle.world.proofs.Files.{Journal, Few, said_append, grown_records, grown_journal, torn_records, said_due, cut_journal}
+use Rattle.borrower.proofs.OnDisk.{said_append, said_due}
+use Rattle.world.proofs.Files.{Journal, Few, grown_records, grown_journal, torn_records, cut_journal}
 use Rattle.world.proofs.Wire.{Carries, more_formed, more_wire, less_wire, near_small}
 
 abbrev pub setting : World → Setting

@@ -20,7 +20,7 @@ use Rattle.lender.specs.Rules.{Book, at_2, voids, recalls, ask_answer, after_ask
 use Rattle.lender.specs.Replies.{Effect, heard_effect, heard_book, heard_parts}
 use Rattle.lender.specs.Replay.{Memory, memory, replay, nothing}
 use Rattle.lender.proofs.Kept.{kept}
-use Rattle.lender.proofs.OnDisk.{all_sound}
+use Rattle.lender.proofs.OnDisk.{all_sound, replay_append}
 use Rattle.world.specs.World.{World, Lender, with_keeper, with_sent, recovered, keeper_down, keeper_up, torn_file}
 use Rattle.world.specs.Runs.{Put, puts, Run, whole}
 use Rattle.world.specs.Promise.{NotIn}
@@ -29,7 +29,7 @@ use Rattle.world.proofs.Borrow.{WriteOf}
 use Rattle.world.proofs.Leases.{may, at_two, at_here}
 use Rattle.world.proofs.Keep.{keeping, quietly, only_recalls, lend_inv, put_inv, ends_inv, unsent_inv, stop_inv, rise_inv}
 use Rattle.world.proofs.View.{view, office}
-use Rattle.world.proofs.Files.{Journal, Few, replay_append, puts_append, grown_records, grown_journal, torn_records, recovered_long, cut_journal}
+use Rattle.world.proofs.Files.{Journal, Few, puts_append, grown_records, grown_journal, torn_records, recovered_long, cut_journal}
 use Rattle.world.proofs.Wire.{more_formed, more_wire, keeper_formed}
 use Rattle.world.proofs.Good.{setting, Good, on}
 

@@ -11,7 +11,7 @@ use Rattle.lender.specs.Replay.{replay, nothing}
 use Rattle.borrower.specs.declared.hold.Part.{Part}
 use Rattle.borrower.specs.declared.hold.OnFile.{OnFile}
 use Rattle.borrower.specs.Steps.{risen}
-use Rattle.borrower.specs.Opened.{said}
+use Rattle.borrower.specs.OnDisk.{said}
 use Rattle.borrower.specs.Tablets.{no_numbers}
 use Rattle.world.specs.World.{tick, step}
 use Rattle.world.specs.Runs.{Put, puts, Run, start}

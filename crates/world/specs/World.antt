@@ -16,8 +16,7 @@ use Rattle.borrower.specs.declared.hold.Part.{Part}
 use Rattle.borrower.specs.declared.hold.OnFile.{OnFile}
 use Rattle.borrower.specs.declared.outcome.Call.{Call}
 use Rattle.borrower.specs.Steps.{risen}
-use Rattle.borrower.specs.Tablets.{no_numbers}
-use Rattle.borrower.specs.Opened.{said}
+use Rattle.borrower.specs.OnDisk.{numbers_in}
 use Rattle.borrower.specs.Outcomes as does
 
 -- The keeper: its book and its parts in memory, whether it is up, and its journal.
@@ -85,10 +84,6 @@ keeper_down l f =
 abbrev pub keeper_up : (clock long : ℕ) → (file : List ℕ) → Lender
 keeper_up c l f =
     record { book = grace c (keeper_down l f).book; parts = (recovered f).parts; up = true; file = bytes_of (records_of owner.Keeper f) }
-
--- the numbers that the whole records of a borrower's journal say
-abbrev pub numbers_in : (file : List ℕ) → ℕ → OnFile
-numbers_in f = said (records_of owner.Borrower f) (λ q. no_numbers)
 
 abbrev pub borrower_down : (file : List ℕ) → Borrower
 borrower_down f = record { parts = λ q. risen (numbers_in f q); filed = numbers_in f; copies = blank; up = false; file = f }

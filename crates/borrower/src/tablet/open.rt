@@ -37,7 +37,7 @@ impl Tablet {
         short: u64,
         journal: &mut S,
     ) -> Result<(Tablet, usize), OpenError>
-        ensures whole { S.whole journal.new ≡ S.whole journal.old }
+        ensures all { S.all journal.new ≡ S.all journal.old }
         ensures opened { OpenedAs (S.had journal.old) (S.had journal.new) who short result }
         ensures ended { OnOk result (S.ended journal.new) }
     {

@@ -25,7 +25,7 @@ impl Block {
 
     /// Reads on, behind what it holds, and says how many bytes came.
     pub fn fill<S: Source>(&mut self, from: &mut S) -> Result<usize, StoreError>
-        ensures whole { S.whole from.new ≡ S.whole from.old }
+        ensures all { S.all from.new ≡ S.all from.old }
         ensures bytes { Filled (S.had from.old) (S.had from.new) (S.ended from.new) (left self.old) (left self.new) result }
     {
         let count = from.read(&mut self.bytes[self.held..])?;

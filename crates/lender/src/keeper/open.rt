@@ -31,7 +31,7 @@ impl Keeper {
         long: u64,
         journal: &mut S,
     ) -> Result<(Keeper, usize), OpenError>
-        ensures whole { S.whole journal.new ≡ S.whole journal.old }
+        ensures all { S.all journal.new ≡ S.all journal.old }
         ensures opened { OpenedAs (S.had journal.old) (S.had journal.new) long result }
         ensures ended { OnOk result (S.ended journal.new) }
     {

@@ -20,7 +20,7 @@ pub loop-preserved : goal.loop-preserved
 loop-preserved g c =
     let f = c.in_ok-fill.ensures.bytes in
     let r = c.in-Ok.ensures in (
-      c.in_ok-fill.ensures.whole ∙ c.loop.invariant.0,
+      c.in_ok-fill.ensures.all ∙ c.loop.invariant.0,
       ahead_more g.R.Journaled.becomes c.args.owner _ _ _ c.args.into.now c.loop.into c.replay.new.into c.loop.size c.in-Ok.done c.in-Some.end (left c.loop.block) f.0 c.left.result.now (left c.pass.new.self)
           c.loop.invariant.1 f.2 (c.left.ensures ∙ f.3) r.0 r.1 c.in-Some.ensures.1 (c.pass.ensures ∙ ap (drop c.in-Ok.done) (sym c.left.ensures)),
     )

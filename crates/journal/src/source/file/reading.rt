@@ -84,7 +84,7 @@ impl Source for FileSource {
 
     ghost ended = { λ s. s.ended ≡ true };
 
-    ghost whole = { λ _. None };
+    ghost all = { λ _. None };
 
     fn read(&mut self, block: &mut [u8]) -> Result<usize, StoreError> {
         let count = fetch(&mut self.file, block)?;

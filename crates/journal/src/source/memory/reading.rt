@@ -26,7 +26,7 @@ impl<'a> Source for MemorySource<'a> {
 
     ghost ended = { λ s. s.at ≡ length s.bytes.now };
 
-    ghost whole = { λ s. Some s.bytes.now };
+    ghost all = { λ s. Some s.bytes.now };
 
     fn read(&mut self, block: &mut [u8]) -> Result<usize, StoreError> {
         let left = self.left();

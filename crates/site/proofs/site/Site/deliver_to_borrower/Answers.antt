@@ -5,7 +5,7 @@ use Rattle.borrower.specs.Outcomes.{Effect}
 use Rattle.site.specs.Nodes.{borrower_number}
 use Rattle.world.specs.World.{cut}
 use Rattle.site.specs.Worlds.{world_of}
-use Rattle.site.proofs.Plain.{sends_plain}
+use Rattle.borrower.proofs.Plain.{sends_plain}
 use Rattle.site.proofs.Played.{heard, heard_answer, heard_told}
 use Rattle.site.proofs.site.Site.deliver_to_borrower.Goals as goal
 

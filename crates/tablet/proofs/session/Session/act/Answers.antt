@@ -17,5 +17,5 @@ writes calls.Forget b m h = tt
 pub returns-in-Call-clause-is : goal.returns-in-Call-clause-is
 returns-in-Call-clause-is g c =
     let b = c.args.buffer.now in
-    let P : Act → Type 0 = λ a. (m : List ℕ) → InFront 1034 a b m → Acted c.args.self.now.tablet c.call.new.self.tablet c.args.said.clock (plain a) (take 1034 m) (printed c.args.out.now) (printed c.call.new.out) in
+    let P : Act → Type 0 = λ a. (m : List ℕ) → InFront 1034 a b m → Acted c.args.self.now.tablet c.call.new.self.tablet (g.S.Store.disk c.args.self.now.store) (g.S.Store.disk c.call.new.self.store) c.args.said.clock (plain a) (take 1034 m) (printed c.args.out.now) (printed c.call.new.out) in
     where_done c.call.result _ _ c.call.ensures.is (λ done. subst P (sym c.in-Call.is) (λ m front. (take 1024 b, writes c.in-Call.call b m front, done)))

@@ -15,5 +15,6 @@ returns-clause-is g c =
       outcome = o;
       effect = c.in_ok-outcome.ensures.effect bytes;
       left = c.call.ensures.left;
+      filed = c.in_ok-outcome.ensures.logged;
       printed = c.in_ok-outcome-2.ensures ∙ ap (λ (p : List ℕ). outcome_behind p c.unwrap.result.now o) c.in_ok-show.ensures ∙ ap (λ (v : List ℕ). outcome_behind before v o) front;
     }
