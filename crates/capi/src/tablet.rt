@@ -1,6 +1,6 @@
 ghost use Rattle.std.specs.Prelude.{◌≡◌, ◌≢◌, ◌≤◌, [], length, MatchOption};
 ghost use Rattle.message.specs.Reading.{read};
-ghost use Rattle.journal.specs.Records.{AllFormed, bytes_of};
+ghost use Rattle.journal.specs.Records.{bytes_of};
 ghost use Rattle.borrower.specs.declared.outcome.Call.TheVariants.{Show};
 ghost use Rattle.borrower.specs.Tablets.{part_at, filed_at, copy_at};
 ghost use Rattle.borrower.specs.Outcomes.{effect, recorded_by, heard_effect, Heard, call_part, Stepped};
@@ -43,8 +43,7 @@ pub fn whole_part(bytes: &[u8]) -> Option<&[u8; 1024]>
 // Writes the record of a tablet, if there is one. It carries no part: the zeros that stand beside it are made only where there is one.
 fn put_numbers(record: Option<Record>, out: &mut [u8]) -> usize
     requires { 1032 ≤ length out.old }
-    ensures wrote { Wrote (bytes_of (recorded_by «record»)) result out.old out.new }
-    ensures formed { AllFormed (recorded_by «record») }
+    ensures { Wrote (bytes_of (recorded_by «record»)) result out.old out.new }
 {
     match record {
         None => 0,

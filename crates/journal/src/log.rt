@@ -1,6 +1,5 @@
 ghost use Rattle.std.specs.Prelude.{OnOk};
 ghost use Rattle.journal.specs.Logs.{Logged, logged};
-ghost use Rattle.journal.specs.Records.{AllFormed};
 
 use crate::record::Record;
 use crate::store::{Store, StoreError, commit_record};
@@ -12,8 +11,7 @@ pub fn log<S: Store>(
     record: Option<Record>,
     part: &[u8; 1024],
 ) -> Result<(), StoreError>
-    ensures formed { AllFormed (logged part.now «record») }
-    ensures logged { OnOk result (Logged (logged part.now «record») (S.disk store.old) (S.disk store.new)) }
+    ensures { OnOk result (Logged (logged part.now «record») (S.disk store.old) (S.disk store.new)) }
 {
     match record {
         Some(record) => commit_record(store, &record, part),

@@ -1,5 +1,5 @@
-ghost use Rattle.std.specs.Prelude.{◌≡◌, true, is_some};
-ghost use Rattle.journal.specs.Records.{recorded, WellFormed, size_of, Encoded};
+ghost use Rattle.std.specs.Prelude.{◌≡◌};
+ghost use Rattle.journal.specs.Records.{recorded, size_of, Encoded};
 
 use part::head::Head;
 use part::number::put_number;
@@ -42,8 +42,7 @@ impl Record {
 /// it has; where there is no room it writes nothing.
 // A size stays beside the bytes, as of a message.
 pub fn encode(record: &Record, part: &[u8; 1024], out: &mut [u8]) -> Option<usize>
-    ensures formed { is_some result ≡ true → WellFormed (recorded part.now «record».now) }
-    ensures wrote { Encoded (recorded part.now «record».now) out.old out.new result }
+    ensures { Encoded (recorded part.now «record».now) out.old out.new result }
 {
     if out.len() < record.size() {
         return None;

@@ -1,6 +1,6 @@
 ghost use Rattle.std.specs.Prelude.{◌≡◌, Some, codes};
 ghost use Rattle.journal.specs.declared.store.StoreError.TheVariants.{NoMemory};
-ghost use Rattle.journal.specs.Records.{recorded, layout, WellFormed};
+ghost use Rattle.journal.specs.Records.{recorded, layout};
 ghost use Rattle.journal.specs.Stores.{Disk, Grown, Saved, Committed};
 
 use crate::record::{Record, encode};
@@ -61,8 +61,7 @@ pub fn append_record<S: Store>(
     record: &Record,
     part: &[u8; 1024],
 ) -> Result<(), StoreError>
-    ensures formed { WellFormed (recorded part.now «record».now) }
-    ensures grown { Grown (S.disk store.old) (layout (recorded part.now «record».now)) (S.disk store.new) result }
+    ensures { Grown (S.disk store.old) (layout (recorded part.now «record».now)) (S.disk store.new) result }
 {
     let mut out = [0; 1032];
     let size = encode(record, part, &mut out).unwrap();
@@ -76,8 +75,7 @@ pub fn commit_record<S: Store>(
     record: &Record,
     part: &[u8; 1024],
 ) -> Result<(), StoreError>
-    ensures formed { WellFormed (recorded part.now «record».now) }
-    ensures committed { Committed (S.disk store.old) (layout (recorded part.now «record».now)) (S.disk store.new) result }
+    ensures { Committed (S.disk store.old) (layout (recorded part.now «record».now)) (S.disk store.new) result }
 {
     append_record(store, record, part)?;
     store.sync()

@@ -1,7 +1,6 @@
 ghost use Rattle.std.specs.Prelude.{◌≡◌, ◌∷◌, ◌==◌, position};
-ghost use Rattle.std.specs.Option.{option_map};
 ghost use Rattle.std.specs.Str.{bytes_eq};
-ghost use Rattle.lines.specs.Words.{before, behind, words, rest_words};
+ghost use Rattle.lines.specs.Words.{words, rest_words};
 
 use memchr::memchr;
 
@@ -16,9 +15,7 @@ pub fn find(text: &[u8], mark: u8) -> Option<usize>
 
 /// The first word of a text, and what stands behind the space that ends it, where there is a space.
 pub fn split(text: &[u8]) -> (&[u8], Option<&[u8]>)
-    ensures word { result.0.now ≡ before 32 text.now }
-    ensures more { option_map (λ x. x.now) result.1 ≡ behind 32 text.now }
-    ensures words { words text.now ≡ result.0.now ∷ rest_words result.1 }
+    ensures { words text.now ≡ result.0.now ∷ rest_words result.1 }
 {
     match find(text, SPACE) {
         Some(end) => (&text[..end], Some(&text[end + 1..])),

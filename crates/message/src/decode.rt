@@ -94,7 +94,7 @@ pub fn decode(bytes: &[u8]) -> Result<Message, Malformed>
 
 /// The part's bytes that a loan or a write carries: the last 1,024, where there are so many.
 pub fn carried_part(bytes: &[u8]) -> Option<&[u8; 1024]>
-    ensures { MatchOption result (length bytes.now < 1024) (λ v. (v.now ≡ carried bytes.now) × (length v.now ≡ 1024)) }
+    ensures { MatchOption result (length bytes.now < 1024) (λ v. v.now ≡ carried bytes.now) }
 {
     bytes.last_chunk()
 }

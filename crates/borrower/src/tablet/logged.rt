@@ -1,7 +1,6 @@
 ghost use Rattle.std.specs.Prelude.{◌≡◌, ℕ, List, [], IfOk, OnOk};
 ghost use Rattle.message.specs.Reading.{read};
 ghost use Rattle.journal.specs.Logs.{Logged};
-ghost use Rattle.journal.specs.Records.{AllFormed};
 ghost use Rattle.borrower.specs.Tablets.{part_at, filed_at};
 ghost use Rattle.borrower.specs.Outcomes.{effect, recorded_by, Stepped, call_effect, call_part, heard_effect, Heard};
 ghost use Rattle.borrower.specs.OnDisk.{OnDisk};
@@ -13,12 +12,11 @@ use journal::record::Record;
 use journal::store::{Store, StoreError};
 use part::place::Place;
 
-// The clause `logged` stands with each of the three: it is one name, and says of each what is in the journal.
+// The clauses `logged` and `disk` stand with both: what is in the journal, and what that says.
 
 // Appends the record of a step, if there is one, and syncs. No part goes with a borrower's records.
 fn log_numbers<S: Store>(store: &mut S, due: Option<Record>) -> Result<(), StoreError>
-    ensures formed { AllFormed (recorded_by due) }
-    ensures logged { OnOk result (Logged (recorded_by due) (S.disk store.old) (S.disk store.new)) }
+    ensures { OnOk result (Logged (recorded_by due) (S.disk store.old) (S.disk store.new)) }
 {
     log(store, due, &[0; 1024])
 }

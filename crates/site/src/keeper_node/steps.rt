@@ -43,8 +43,7 @@ fn written(journal: &[u8], place: Place) -> Result<[u8; 1024], Fault>
 impl KeeperNode {
     /// Down, with an empty journal.
     pub fn new(heap: Global, long: u64) -> KeeperNode
-        ensures is { lender_of result ≡ keeper_down long [] }
-        ensures long { result.long ≡ long }
+        ensures { lender_of result ≡ keeper_down long [] }
     {
         KeeperNode {
             long,
@@ -79,8 +78,7 @@ impl KeeperNode {
 
     /// Stops: all but its journal is gone.
     pub fn stop(&mut self)
-        ensures is { lender_of self.new ≡ keeper_down self.old.long (lender_of self.old).file }
-        ensures long { self.new.long ≡ self.old.long }
+        ensures { lender_of self.new ≡ keeper_down self.old.long (lender_of self.old).file }
     {
         self.memory = None;
     }

@@ -1,8 +1,6 @@
 ghost use Rattle.std.specs.Prelude.{◌≡◌, suc, [], List};
 ghost use Rattle.clock.specs.Clocks.{present, moment, Stands};
-ghost use Rattle.world.specs.World.{first_world};
 ghost use Rattle.site.specs.Nodes.{borrower_number};
-ghost use Rattle.site.specs.Worlds.{world_of};
 ghost use Rattle.site.specs.Led.{Led};
 
 use crate::borrowers::Borrowers;
@@ -17,7 +15,6 @@ use std::alloc::Global;
 impl Site {
     /// At first all are down, journals are empty, nothing was sent, and the clocks show this.
     pub fn new(heap: Global, terms: Terms, hands: &[u64; 5]) -> Site
-        ensures world { world_of result ≡ first_world terms.short terms.long (moment 0 hands.now) }
         ensures terms { result.clocks.terms ≡ terms }
         ensures led { Led result (moment 0 hands.now) [] }
     {

@@ -13,7 +13,7 @@ returns-clause-says c =
     record { number = c.number_of.result; reply = record { record_size = c.put_numbers-record_size.result; message_count = 0; message_size = 0; told = c.default.result } } in
     let word : c.default.result ≡ no_word = search rules in
     subst (λ (x : Effect). Says x.records [] [] x.answer a c.args.filed.now c.put_numbers-record_size.new.out [] []) (c.show-outcome.ensures.effect [])
-    (record { number = c.number_of.ensures; filed = c.put_numbers-record_size.ensures.wrote; formed = c.put_numbers-record_size.ensures.formed; sent = (refl, (refl, refl)); told = word })
+    (record { number = c.number_of.ensures; filed = c.put_numbers-record_size.ensures; formed = search rules; sent = (refl, (refl, refl)); told = word })
 
 pub returns-clause-copy : goal.returns-clause-copy
 returns-clause-copy c =

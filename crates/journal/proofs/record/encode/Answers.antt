@@ -12,11 +12,8 @@ returns-in-Applied c =
     let lv : length c.args.part.now ≡ 1024 = omega arith in
     let p = c.put.ensures in
     let s = ap (recorded c.args.part.now) i.is in
-    record {
-      formed = λ _. rw s (p.named, lv);
-      wrote = applied_wrote i.head.who.id i.head.place.at i.head.number xs _ c.args.part.now _ _ s
-          (there _ _ _ _ _ _ p.fits (omega arith) p.after) lv (put_mid_is 8 _ _ _ c.args.part.now c.copy_from_slice.ensures.after lv);
-    }
+    applied_wrote i.head.who.id i.head.place.at i.head.number xs _ c.args.part.now _ _ s
+    (there _ _ _ _ _ _ p.fits (omega arith) p.after) lv (put_mid_is 8 _ _ _ c.args.part.now c.copy_from_slice.ensures.after lv)
 
 pub returns-in-Numbers : goal.returns-in-Numbers
 returns-in-Numbers c =
@@ -26,8 +23,5 @@ returns-in-Numbers c =
     let a = c.put_number.ensures in
     let w = c.put_number-in-Numbers.ensures in
     let s = ap (recorded c.args.part.now) i.is in
-    record {
-      formed = λ _. rw s (i.place.within, a.small, w.small);
-      wrote = numbers_wrote i.place.at i.ask i.write _ _ xs _ _ _ s l c.file.ensures c.part.ensures
-          (there _ _ _ _ _ _ a.fits (search rules) a.after) (there _ _ _ _ _ _ w.fits (search rules) w.after);
-    }
+    numbers_wrote i.place.at i.ask i.write _ _ xs _ _ _ s l c.file.ensures c.part.ensures
+    (there _ _ _ _ _ _ a.fits (search rules) a.after) (there _ _ _ _ _ _ w.fits (search rules) w.after)

@@ -1,4 +1,4 @@
-use Rattle.std.proofs.Common.{ℕ, List, refl, subst}
+use Rattle.std.proofs.Common.{ℕ, List, subst}
 use Rattle.journal.specs.Records.{recorded, layout}
 use Rattle.journal.specs.Stores.{Grown}
 use Rattle.part.proofs.Writes.{front_is}
@@ -10,7 +10,4 @@ returns g c =
     let e = rw u at c.encode.ensures in
     let lay : List ℕ = layout (recorded c.args.part.now c.args.«record».now) in
     let P : List ℕ → Type 0 = λ q. Grown (g.S.Store.disk c.args.store.now) q (g.S.Store.disk c.append.new.self) c.append.result in
-    record {
-      formed = e.formed refl;
-      grown = subst P (front_is c.unwrap-size.result c.encode.new.out lay _ e.wrote.0 e.wrote.1) c.append.ensures;
-    }
+    subst P (front_is c.unwrap-size.result c.encode.new.out lay _ e.0 e.1) c.append.ensures

@@ -7,10 +7,10 @@ returns-in-Some c =
     let e = found 32 _ c.args.text.now c.in-Some.ensures in
     let w = slice_before 32 _ c.args.text.now e.0 in
     let b = slice_behind 32 _ c.args.text.now e.0 e.1 in
-    record { word = w; more = b; words = words_by c.args.text.now _ _ w b }
+    words_by c.args.text.now _ _ w b
 
 pub returns-in-None : goal.returns-in-None
 returns-in-None c =
     let none = not_found 32 c.args.text.now c.in-None.ensures in
     let w = all_before 32 c.args.text.now none in
-    record { word = w; more = sym none; words = words_by c.args.text.now _ _ w (sym none) }
+    words_by c.args.text.now _ _ w (sym none)

@@ -6,4 +6,4 @@ use Rattle.script.proofs.step.parts.fill.Goals as goal
 pub loop-slot-preserved : goal.loop-slot-preserved
 loop-slot-preserved c =
     filled_step c.loop-slot.out c.loop-slot.slot-index _ _ (rest_words c.loop-slot.rest) (rest_words c.split.result.1) (omega arith)
-    (ap rest_words c.in-Some.is ∙ c.split.ensures.words) c.in_ok-slot.ensures ∙ c.loop-slot.invariant
+    (ap rest_words c.in-Some.is ∙ c.split.ensures) c.in_ok-slot.ensures ∙ c.loop-slot.invariant
