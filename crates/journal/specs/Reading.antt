@@ -1,7 +1,6 @@
 -- What the reader of a journal says of its bytes.
 -- Assumes nothing.
 use Rattle.std.specs.Prelude.{◌≡◌, ℕ, ◌+◌, ◌≤◌, List, ◌++◌, length, take, drop, Ok, Err, Result, Some, None, Option}
-use Rattle.std.specs.Borrow.{Bor}
 use Rattle.message.specs.declared.form.Malformed.{Malformed}
 use Rattle.message.specs.Format.{carried}
 use Rattle.journal.specs.declared.record.Owner.{Owner}
@@ -40,8 +39,3 @@ Refused o bs = (Torn o (rest_of o bs) → ⊥) × NoRecord o (rest_of o bs)
 abbrev pub Judged : Owner → List ℕ → Result ℕ Malformed → Type 0
 Judged o bs (Ok n) = Cut o bs n
 Judged o bs (Err e) = Refused o bs
-
--- the whole records, or that the journal is to be refused
-abbrev pub Front : Owner → List ℕ → Result (Bor (List ℕ)) Malformed → Type 0
-Front o bs (Ok s) = (s.now ≡ bytes_of (records_of o bs)) × Torn o (rest_of o bs)
-Front o bs (Err e) = Refused o bs

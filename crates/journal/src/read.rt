@@ -1,6 +1,6 @@
 ghost use Rattle.std.specs.Prelude.{◌∷◌};
 ghost use Rattle.journal.specs.declared.record.Owner.TheVariants.{Keeper as TheKeeper, Borrower as TheBorrower};
-ghost use Rattle.journal.specs.Reading.{Stands, Judged, Front};
+ghost use Rattle.journal.specs.Reading.{Stands, Judged};
 
 use crate::record::{Owner, Record};
 use message::form::Malformed;
@@ -104,12 +104,4 @@ pub fn whole(owner: Owner, bytes: &[u8]) -> Result<usize, Malformed>
         at = entry.end;
     }
     Ok(at)
-}
-
-/// The whole records of a journal.
-pub fn kept(owner: Owner, bytes: &[u8]) -> Result<&[u8], Malformed>
-    ensures { Front owner bytes.now result }
-{
-    let end = whole(owner, bytes)?;
-    Ok(&bytes[0..end])
 }

@@ -2,7 +2,7 @@
 ghost use Rattle.std.specs.Prelude.{◌≡◌, Some, length};
 ghost use Rattle.journal.specs.Memory.{read_of};
 
-use crate::read::{kept, whole};
+use crate::read::whole;
 use crate::record::{Owner, Record, encode};
 use crate::replay::{Journaled, OpenError, read_through, replay};
 use crate::source::Source;
@@ -258,8 +258,7 @@ fn a_journal_is_read_in_blocks(rt: HostRuntime) -> Result<(), Fail> {
     assert_eq!(rt; read_through(Owner::Keeper, &mut from, &mut seen), Ok(size));
     assert!(rt; seen.in_order && seen.next == 1000 && seen.parts == 500);
     store.cut(size);
-    let whole = kept(Owner::Keeper, store.content()).map_err(|_| "refused")?;
-    assert!(rt; whole.len() == size);
+    assert_eq!(rt; whole(Owner::Keeper, store.content()), Ok(size));
     Ok(())
 }
 
