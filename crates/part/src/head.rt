@@ -1,10 +1,13 @@
 ghost use Rattle.std.specs.Prelude.{◌≡◌, [], ◌∷◌, ◌++◌, length, drop, if◌then◌else◌, MatchOption, nat_le};
 ghost use Rattle.part.specs.Bytes.{headed, Named};
-ghost use Rattle.part.specs.Heads.{Heads, NoHead};
+ghost use Rattle.part.specs.Heads.{Heads, NoHead, Alone, NotAlone};
 
 use crate::number::number_at;
 use crate::place::Place;
 use crate::who::Who;
+
+/// How many bytes a head has.
+pub const HEAD_SIZE: usize = 7;
 
 /// What most messages and records begin with, after their first byte: a borrower, a part and a number.
 #[derive(Clone, Copy, Debug, PartialEq, Eq)]
@@ -28,6 +31,23 @@ impl Head {
             number: number_at(bytes, 3)?,
         })
     }
+
+    /// The head that the bytes are, where nothing stands behind it.
+    pub fn read_alone(bytes: &[u8]) -> Option<Head>
+        ensures { MatchOption result (NotAlone bytes.now) (λ h. Alone bytes.now h) }
+    {
+        let head = Head::read(bytes)?;
+        if bytes.len() == HEAD_SIZE {
+            Some(head)
+        } else {
+            None
+        }
+    }
+
+    /// Its borrower and its part are there.
+    pub fn named(self)
+        ensures { Named self.who.id self.place.at self.number }
+    {}
 
     /// Writes a first byte and the head at the front; false, and nothing is written, where there is no room.
     // A `bool` stays: every caller has made room, so that an error would only be thrown away at each call.

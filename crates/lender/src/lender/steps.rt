@@ -41,7 +41,7 @@ impl Lender {
             number: ask.head.number,
             until: clock + self.long,
         };
-        self.table.grant(clock, lease).unwrap();
+        self.table.grant(clock, lease);
     }
 
     // Lends, where there is room in the table and in the clock.

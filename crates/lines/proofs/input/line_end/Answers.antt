@@ -1,6 +1,6 @@
 use Rattle.std.proofs.Common.{ℕ, ◌-◌, List, length, take, drop, length-take, length-drop, arith, rules}
 use Rattle.lines.proofs.Splits.{found, not_found, end_clean, none_clean}
-use Rattle.lines.proofs.input.reading.line_end.Goals as goal
+use Rattle.lines.proofs.input.line_end.Goals as goal
 
 pub returns-in_err-find : goal.returns-in_err-find
 returns-in_err-find c =

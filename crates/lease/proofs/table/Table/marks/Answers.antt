@@ -1,7 +1,7 @@
 use Rattle.std.proofs.Common.{◌∙◌, sym}
 use Rattle.lease.proofs.Marks.{seen_none, seen_no, seen_yes, seen_beyond, seen_some, seen_marks}
-use Rattle.lease.proofs.table.steps.barring.Goals as goal
-use Rattle.lease.proofs.table.steps.barring.Goals.{then-bars+then-w-lt32, then-bars+else-w-lt32, else-bars}
+use Rattle.lease.proofs.table.Table.marks.Goals as goal
+use Rattle.lease.proofs.table.Table.marks.Goals.{then-bars+then-w-lt32, then-bars+else-w-lt32, else-bars}
 
 pub loop-l-init : goal.loop-l-init
 loop-l-init c = seen_none _ _
