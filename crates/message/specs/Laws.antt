@@ -1,6 +1,6 @@
 -- What the layout promises: bytes mean one message, and a proper first part of a message means none.
 -- Assumes nothing.
-use Rattle.std.specs.Prelude.{◌≡◌, ℕ, ◌<◌, List, length, take, Some, None, Ok, Err, Result}
+use Rattle.std.specs.Prelude.{◌≡◌, ℕ, ◌<◌, ◌≤◌, List, length, take, Some, None, Ok, Err, Result}
 use Rattle.message.specs.declared.form.Malformed.{Malformed}
 use Rattle.message.specs.declared.form.Message.{Message}
 use Rattle.message.specs.Format.{Msg, said, carried, WellFormed, layout, Decoded}
@@ -34,3 +34,7 @@ ReadsExactly =
     ((m : Msg) → WellFormed m → read (layout m) ≡ Some m) ×
     ((xs : List ℕ) (m : Msg) → read xs ≡ Some m → WellFormed m × (layout m ≡ xs)) ×
     ((m : Msg) → WellFormed m → (n : ℕ) → n < length (layout m) → read (take n (layout m)) ≡ None)
+
+-- no message has more bytes
+abbrev pub NoneLonger : (most : ℕ) → Type 0
+NoneLonger most = (m : Msg) → WellFormed m → length (layout m) ≤ most

@@ -1,11 +1,11 @@
 -- The message that some bytes are, as a function: the only one that they could be, where it is well-formed and has these bytes.
 -- Assumes nothing.
-use Rattle.std.specs.Prelude.{ℕ, ◌+◌, ◌*◌, Bool, true, false, cond, ◌&&◌, List, [], ◌∷◌, length, drop, Some, None, Ok, Err, Option, Result, ◌==◌, nat_lt, slice_index, slice_index_or}
+use Rattle.std.specs.Prelude.{◌≡◌, ◌≢◌, ℕ, ◌+◌, ◌*◌, Bool, true, false, cond, ◌&&◌, List, [], ◌∷◌, length, drop, Some, None, Ok, Err, Option, Result, ◌==◌, nat_lt, slice_index, slice_index_or}
 use Rattle.message.specs.declared.kind.Kind.{Kind}
 use Rattle.message.specs.declared.kind.Kind.TheVariants.{Reading, Writing}
 use Rattle.message.specs.declared.form.Malformed.{Malformed}
 use Rattle.message.specs.declared.form.Message.{Message}
-use Rattle.message.specs.Format.{Msg, Ask, Loan, Write, In, Void, Recall, Back, said, carried, layout}
+use Rattle.message.specs.Format.{Msg, Ask, Loan, Write, In, Void, Recall, Back, said, carried, tag, body, layout, WellFormed}
 
 -- the number whose four bytes stand from the place i on
 abbrev pub number : (i : ℕ) → List ℕ → ℕ
@@ -53,6 +53,12 @@ same_bytes (x ∷ xs) (y ∷ ys) = x == y && same_bytes xs ys
 -- the message that the bytes are, where they are one
 unfoldable pub read : List ℕ → Option Msg
 read xs = cond (formed (guess xs) && same_bytes (layout (guess xs)) xs) (Some (guess xs)) None
+
+-- what a reader of the bytes after a first byte gives: the message that has this first byte
+-- and these bytes after it, or that there is none
+abbrev pub ReadBody : (first : ℕ) → List ℕ → Option Msg → Type 0
+ReadBody t ys (Some m) = WellFormed m × (tag m ≡ t) × (body m ≡ ys)
+ReadBody t ys None = (m : Msg) → WellFormed m → tag m ≡ t → body m ≢ ys
 
 -- what a reader of the bytes gave
 abbrev pub heard : List ℕ → Result Message Malformed → Option Msg

@@ -1,6 +1,7 @@
-ghost use Rattle.message.specs.Laws.{Distinct, Exact, CutRefused, Gave, ReadsExactly};
+ghost use Rattle.message.specs.Laws.{Distinct, Exact, CutRefused, Gave, NoneLonger, ReadsExactly};
 ghost use Rattle.message.specs.Format.{said, layout};
 
+use crate::LONGEST;
 use crate::decode::decode;
 use crate::encode::encode;
 use crate::form::{Malformed, Message};
@@ -23,6 +24,11 @@ pub fn cut_is_refused()
 /// Reading, as a function of the bytes, gives exactly the well-formed message that has them.
 pub fn reads_exactly()
     ensures { ReadsExactly }
+{}
+
+/// No message is longer than the longest.
+pub fn none_is_longer()
+    ensures { NoneLonger LONGEST }
 {}
 
 /// Writes a message into bytes that have room for any, and reads it again: it is the same.
