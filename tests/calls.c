@@ -1,7 +1,8 @@
-// Loaded before the C library, it tells on standard error in which order a program calls the system to write, cut and sync.
+// Loaded before the C library, it tells on standard error in which order a program calls the system to lock, write, cut and sync.
 #define _GNU_SOURCE
 #include <dlfcn.h>
 #include <stdio.h>
+#include <sys/file.h>
 #include <sys/stat.h>
 #include <unistd.h>
 
@@ -12,6 +13,12 @@ static const char *name(int fd)
     if (fstat(fd, &is) != 0)
         return "nothing";
     return S_ISDIR(is.st_mode) ? "folder" : S_ISREG(is.st_mode) ? "journal" : "output";
+}
+
+int flock(int fd, int how)
+{
+    dprintf(2, "flock %s%s%s\n", name(fd), how & LOCK_EX ? ", for itself" : "", how & LOCK_NB ? ", at once or not at all" : "");
+    return ((int (*)(int, int))dlsym(RTLD_NEXT, "flock"))(fd, how);
 }
 
 int fsync(int fd)

@@ -8,3 +8,8 @@ pub mod Told
 pub mod Grown
 pub mod Through
 pub mod Blocks
+pub mod Stops
+pub mod Made
+pub mod Passes
+pub mod Cuts
+pub mod Blockwise

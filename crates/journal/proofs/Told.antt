@@ -8,8 +8,8 @@ use denote.RattleType.{RattleType, Valss}
 use denote.Steps.{nothing}
 use denote.Struct.Struct.{within}
 use denote.Struct.Owning.{shape}
+use Rattle.journal.specs.declared.store.told.Told.{Told as Known}
 use Rattle.journal.specs.contracts.store.told.Told as told
-use Rattle.journal.specs.Stores.{Disk}
 
 abbrev pub Told : RattleType
 Told = told.the_row
@@ -19,7 +19,7 @@ abbrev pub no_bytes : Val
 no_bytes = vstruct (of_list [])
 
 -- it is made of nothing, whatever it says
-pub told_in : {M : Type 1} {𝓤 : Ura M} {𝓛 : Logic 𝓤} {K : Type 0} {Γ : List (Item 𝓤)} {G : Goal 𝓤 𝓛.H} → K → (d : Disk)
-    → Step K 𝓛 (‵ (Told.own_val (record { appended = d.appended; synced = d.synced }) (no_bytes ∷ [])) ∷ Γ) G Γ G
+pub told_in : {M : Type 1} {𝓤 : Ura M} {𝓛 : Logic 𝓤} {K : Type 0} {Γ : List (Item 𝓤)} {G : Goal 𝓤 𝓛.H} → K → (d : Known)
+    → Step K 𝓛 (‵ (Told.own_val (d) (no_bytes ∷ [])) ∷ Γ) G Γ G
 told_in t d = step (λ s. let v : Val = no_bytes in
     nothing t $ nothing t $ feq_i t (List Val) (v ∷ []) (v ∷ []) refl $ fjoin t $ fpack t (Valss []) (within (shape told.the_type) tt (v ∷ [])) tt $ fjoin t $ s)

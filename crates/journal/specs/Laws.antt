@@ -1,6 +1,6 @@
 -- What the records that some bytes begin with promise: a journal says what was appended to it, also where a stop cut it short.
 -- Assumes nothing.
-use Rattle.std.specs.Prelude.{◌≡◌, ℕ, ◌<◌, cond, List, [], ◌∷◌, ◌++◌, length, take, Ok, Result, nat_lt}
+use Rattle.std.specs.Prelude.{◌≡◌, ℕ, ◌-◌, ◌<◌, cond, if◌then◌else◌, List, [], ◌∷◌, ◌++◌, length, take, Ok, Result, nat_lt}
 use Rattle.message.specs.declared.form.Malformed.{Malformed}
 use Rattle.journal.specs.declared.record.Owner.{Owner}
 use Rattle.journal.specs.Records.{Rec, layout, Sound, AllSound, bytes_of, Torn, NoRecord, records_of, rest_of}
@@ -23,6 +23,17 @@ TornLeaves = (o : Owner) (rs : List Rec) → AllSound o rs → (r : Rec) → Sou
 abbrev pub StopLeaves : Type 0
 StopLeaves = (o : Owner) (rs : List Rec) → AllSound o rs → (r : Rec) → Sound o r → (k : ℕ)
     → records_of o (bytes_of rs ++ take k (layout r)) ≡ cond (nat_lt k (length (layout r))) rs (rs ++ (r ∷ []))
+
+-- the first records of which all bytes are among the first k
+abbrev pub whole_in : (k : ℕ) → List Rec → List Rec
+whole_in k [] = []
+whole_in k (r ∷ rs) = (if nat_lt k (length (layout r)) then [] else r ∷ whole_in (k - length (layout r)) rs)
+
+-- a stop while several records are appended leaves the records before them, and of them
+-- the first, of which all bytes are there
+abbrev pub StopLeavesFirst : Type 0
+StopLeavesFirst = (o : Owner) (rs more : List Rec) → AllSound o rs → AllSound o more → (k : ℕ)
+    → records_of o (bytes_of rs ++ take k (bytes_of more)) ≡ rs ++ whole_in k more
 
 -- the records of any bytes are their first part, each may stand in the journal, and no record follows
 abbrev pub FrontIsRecords : Type 0

@@ -2,9 +2,14 @@ pub mod Records
 pub mod Laws
 pub mod Reading
 pub mod Stores
+pub mod Causes
 pub mod Sources
 pub mod Blocks
 pub mod Memory
 pub mod Told
+pub mod Files
 pub mod Replays
 pub mod Logs
+pub mod Entries
+pub mod Made
+pub mod Windows

@@ -1,4 +1,4 @@
-ghost use Rattle.journal.specs.Laws.{ReadBack, AppendRead, TornLeaves, StopLeaves, FrontIsRecords, TornIsCut, CutOnce};
+ghost use Rattle.journal.specs.Laws.{ReadBack, AppendRead, TornLeaves, StopLeaves, StopLeavesFirst, FrontIsRecords, TornIsCut, CutOnce};
 
 /// Records are read back one after another, whatever follows them.
 pub fn records_are_read_back()
@@ -18,6 +18,11 @@ pub fn torn_leaves_the_others()
 /// A stop while a record is appended leaves the records before it, and the record if all of its bytes are there.
 pub fn stop_leaves_whole_records()
     ensures { StopLeaves }
+{}
+
+/// A stop while several records are appended leaves the records before them, and the first of them of which all bytes are there.
+pub fn stop_leaves_the_first()
+    ensures { StopLeavesFirst }
 {}
 
 /// The records of any bytes are their first part, each may stand in the journal, and no record follows.

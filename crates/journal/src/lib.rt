@@ -3,6 +3,8 @@
 #![tactic(auto)]
 
 mod block;
+pub mod entry;
+pub mod journaled;
 pub mod laws;
 pub mod log;
 pub mod read;
@@ -12,3 +14,4 @@ pub mod source;
 pub mod store;
 #[cfg(test)]
 mod tests;
+mod window;

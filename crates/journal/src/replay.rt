@@ -3,11 +3,13 @@ ghost use Rattle.journal.specs.Records.{Rec, recorded, WellFormed};
 ghost use Rattle.journal.specs.Reading.{ending};
 ghost use Rattle.journal.specs.Replays.{Replayed, ReadThrough};
 ghost use Rattle.journal.specs.declared.replay.OpenError.TheVariants.{NoMemory, Store as NoStore};
+ghost use Rattle.journal.specs.declared.store.StoreError.TheVariants.{Failed};
 
 use crate::block::Block;
 use crate::read::{next_record, whole};
 use crate::record::{Owner, Record};
 use crate::source::Source;
+use crate::source::file::CutError;
 use crate::store::StoreError;
 use message::decode::carried_part;
 use message::form::Malformed;
@@ -54,6 +56,15 @@ impl From<AllocError> for OpenError {
 
     fn from(_: AllocError) -> Self {
         Self::NoMemory
+    }
+}
+
+// One that was not read to its end is not cut either; who opens a journal has read it.
+impl From<CutError> for OpenError {
+    ghost from_gives = { λ _ e. e ≡ NoStore Failed };
+
+    fn from(_: CutError) -> Self {
+        Self::Store(StoreError::Failed)
     }
 }
 

@@ -1,7 +1,8 @@
-ghost use Rattle.std.specs.Prelude.{◌≡◌, Some, codes};
+ghost use Rattle.std.specs.Prelude.{◌≡◌, ℕ, Some, IsErrOf, codes};
 ghost use Rattle.journal.specs.declared.store.StoreError.TheVariants.{NoMemory};
 ghost use Rattle.journal.specs.Records.{recorded, layout};
 ghost use Rattle.journal.specs.Stores.{Disk, Grown, Saved, Committed};
+ghost use Rattle.journal.specs.Causes.{HasCause};
 
 use crate::record::{Record, encode};
 use std::alloc::AllocError;
@@ -46,13 +47,23 @@ pub trait Store {
     // what the file holds, and what is known to be on disk
     ghost disk: { Self → Disk };
 
+    // how often the disk has failed
+    ghost faults: { Self → ℕ };
+
+    // the file is in memory, which may run out
+    ghost in_memory: { Type 0 };
+
     /// Appends bytes to the file. Where it fails, some first part of them may be there.
     fn append(&mut self, bytes: &[u8]) -> Result<(), StoreError>
-        ensures { Grown (disk self.old) bytes.now (disk self.new) result };
+        ensures grown { Grown (disk self.old) bytes.now (disk self.new) result }
+        ensures cause { HasCause (faults self.old) (faults self.new) result }
+        ensures memory { IsErrOf result NoMemory → in_memory };
 
     /// Brings all that the file holds to the disk.
     fn sync(&mut self) -> Result<(), StoreError>
-        ensures { Saved (disk self.old) (disk self.new) result };
+        ensures saved { Saved (disk self.old) (disk self.new) result }
+        ensures cause { HasCause (faults self.old) (faults self.new) result }
+        ensures memory { IsErrOf result NoMemory → ⊥ };
 }
 
 /// Appends a record, with the bytes of `part` where a part is applied. It is not synced: nothing that depends on it may leave yet.
@@ -61,7 +72,8 @@ pub fn append_record<S: Store>(
     record: &Record,
     part: &[u8; 1024],
 ) -> Result<(), StoreError>
-    ensures { Grown (S.disk store.old) (layout (recorded part.now «record».now)) (S.disk store.new) result }
+    ensures grown { Grown (S.disk store.old) (layout (recorded part.now «record».now)) (S.disk store.new) result }
+    ensures cause { HasCause (S.faults store.old) (S.faults store.new) result }
 {
     let mut out = [0; 1032];
     let size = encode(record, part, &mut out).unwrap();
@@ -75,7 +87,8 @@ pub fn commit_record<S: Store>(
     record: &Record,
     part: &[u8; 1024],
 ) -> Result<(), StoreError>
-    ensures { Committed (S.disk store.old) (layout (recorded part.now «record».now)) (S.disk store.new) result }
+    ensures committed { Committed (S.disk store.old) (layout (recorded part.now «record».now)) (S.disk store.new) result }
+    ensures cause { HasCause (S.faults store.old) (S.faults store.new) result }
 {
     append_record(store, record, part)?;
     store.sync()

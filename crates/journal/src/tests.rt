@@ -10,6 +10,7 @@ use crate::source::file::FileSource;
 use crate::source::memory::MemorySource;
 use crate::store::failing::FailingStore;
 use crate::store::memory::MemoryStore;
+use crate::store::told::Told;
 use crate::store::{Store, StoreError, commit_record};
 use part::head::Head;
 use part::place::Place;
@@ -17,6 +18,8 @@ use part::who::Who;
 use std::alloc::{AllocError, Global};
 use std::fs;
 use std::test::Fail;
+
+mod reading;
 
 fn head(number: u32) -> Option<Head> {
     Some(Head {
@@ -281,6 +284,7 @@ fn a_bad_record_far_on_is_refused(rt: HostRuntime) -> Result<(), Fail> {
 struct FailingSource<'a> {
     from: MemorySource<'a>,
     left: usize,
+    told: Told,
 }
 
 impl<'a> Source for FailingSource<'a> {
@@ -290,8 +294,14 @@ impl<'a> Source for FailingSource<'a> {
 
     ghost all = { λ s. Some s.from.bytes.now };
 
+    ghost faults = { λ s. s.told.faults };
+
     fn read(&mut self, block: &mut [u8]) -> Result<usize, StoreError> {
-        self.left = self.left.checked_sub(1).ok_or(StoreError::Failed)?;
+        if self.left == 0 {
+            self.told.fail();
+            return Err(StoreError::Failed);
+        }
+        self.left -= 1;
         self.from.read(block)
     }
 }
@@ -303,6 +313,7 @@ fn a_file_that_cannot_be_read_on(rt: HostRuntime) -> Result<(), Fail> {
     let mut from = FailingSource {
         from: MemorySource::of(store.content()),
         left: 1,
+        told: Told::nothing(),
     };
     let mut seen = NONE;
     assert_eq!(rt;
@@ -344,13 +355,16 @@ fn a_file_is_read_back(rt: HostRuntime) -> Result<(), Fail> {
     let _ = fs::remove_file(&rt, path);
     let (made, _, size) = opened(&rt, path)?;
     assert!(rt; size == 0, "made");
-    let mut store = made.cut(size)?;
+    let mut store = made.cut(size).map_err(|_| "not cut")?;
     commit(&mut store, &[9, 31, 63, 255, 0, 0, 0, 0])?;
     commit(&mut store, &[9, 31, 63])?;
+    assert!(rt; FileSource::open(&rt, path).is_err(), "it is in use");
+    drop(store);
     let (again, seen, size) = opened(&rt, path)?;
     assert!(rt; seen.in_order && seen.next == 1 && size == 8, "read back");
-    let mut cut = again.cut(size)?;
+    let mut cut = again.cut(size).map_err(|_| "not cut again")?;
     commit(&mut cut, &[9])?;
+    drop(cut);
     assert!(rt;
         fs::read(&rt, path)?.as_slice() == [9, 31, 63, 255, 0, 0, 0, 0, 9].as_slice(),
         "cut and grown"

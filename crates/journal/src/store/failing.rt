@@ -1,7 +1,10 @@
-ghost use Rattle.std.specs.Prelude.{◌≡◌, []};
+ghost use Rattle.std.specs.Prelude.{◌≡◌, [], IsErrOf};
+ghost use Rattle.journal.specs.declared.store.StoreError.TheVariants.{NoMemory};
 ghost use Rattle.journal.specs.Memory.{disk_of};
+ghost use Rattle.journal.specs.Causes.{HasCause};
 
 use crate::store::memory::MemoryStore;
+use crate::store::told::Told;
 use crate::store::{Store, StoreError};
 use std::alloc::Global;
 
@@ -10,6 +13,8 @@ use std::alloc::Global;
 pub struct FailingStore {
     file: MemoryStore,
     left: usize,
+    // how often it has failed
+    told: Told,
 }
 
 impl FailingStore {
@@ -21,6 +26,7 @@ impl FailingStore {
         FailingStore {
             file: MemoryStore::new(heap),
             left,
+            told: Told::nothing(),
         }
     }
 
@@ -33,15 +39,25 @@ impl FailingStore {
 
     // Counts a call, which fails where none is left.
     fn count(&mut self) -> Result<(), StoreError>
-        ensures { self.new.file ≡ self.old.file }
+        ensures file { self.new.file ≡ self.old.file }
+        ensures cause { HasCause self.old.told.faults self.new.told.faults result }
+        ensures memory { IsErrOf result NoMemory → ⊥ }
     {
-        self.left = self.left.checked_sub(1).ok_or(StoreError::Failed)?;
+        if self.left == 0 {
+            self.told.fail();
+            return Err(StoreError::Failed);
+        }
+        self.left -= 1;
         Ok(())
     }
 }
 
 impl Store for FailingStore {
     ghost disk = { λ s. disk_of s.file };
+
+    ghost faults = { λ s. s.told.faults };
+
+    ghost in_memory = { Unit {0} };
 
     fn append(&mut self, bytes: &[u8]) -> Result<(), StoreError> {
         self.count()?;

@@ -10,4 +10,4 @@ returns g c =
     let e = rw u at c.encode.ensures in
     let lay : List ℕ = layout (recorded c.args.part.now c.args.«record».now) in
     let P : List ℕ → Type 0 = λ q. Grown (g.S.Store.disk c.args.store.now) q (g.S.Store.disk c.append.new.self) c.append.result in
-    subst P (front_is c.unwrap-size.result c.encode.new.out lay _ e.0 e.1) c.append.ensures
+    record { grown = subst P (front_is c.unwrap-size.result c.encode.new.out lay _ e.0 e.1) c.append.ensures.grown; cause = c.append.ensures.cause }

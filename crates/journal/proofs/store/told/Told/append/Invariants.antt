@@ -2,4 +2,4 @@ use Rattle.std.proofs.Common.{◌++◌}
 use Rattle.journal.proofs.store.told.Told.append.Given as goal
 
 abbrev pub ghost-next : goal.ghost-next
-ghost-next a = record { appended = a._was.now.appended ++ a._bytes.now; synced = a._was.now.synced }
+ghost-next a = record a._was.now { appended = a._was.now.appended ++ a._bytes.now }

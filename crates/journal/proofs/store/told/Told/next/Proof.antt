@@ -43,4 +43,4 @@ next_spec 𝓤 𝓛 𝓜 𝓡 wired =
     told_in ! d $
     use0 𝓛 (raw (fact 𝓤 (d ≡ d))) (fact_i 𝓤 (d ≡ d) (emp 𝓤) refl) $
     returns ! (look_at ! 0 refl) $ free_all ! refl $ move ! (2 ∷ 3 ∷ 1 ∷ 0 ∷ []) $
-    by ! (leaves 𝓛 ended hs c y w (record { appended = d.appended; synced = d.synced }) (tt, (tt, (tt, tt))) (tt, (tt, (tt, tt))))))
+    by ! (leaves 𝓛 ended hs c y w d (tt, (tt, (tt, tt))) (tt, (tt, (tt, tt))))))

@@ -1,5 +1,5 @@
 -- `nothing` owns nothing.
-use Rattle.std.proofs.Common.{◌≡◌, [], ◌∷◌, refl}
+use Rattle.std.proofs.Common.{◌≡◌, false, [], ◌∷◌, refl}
 use mir.Val.{Val}
 use base.Logic.{SProp, emp}
 use contract.Monad.{fact, fact_i}
@@ -13,7 +13,7 @@ use denote.Signature.{types_at}
 use denote.Triple.Entry.{alive}
 use denote.Triple.Walked.{Stays, walk_of}
 use Rattle.std.proofs.raw_atomic.Walks.{proved_at, leaves}
-use Rattle.journal.specs.Stores.{Disk}
+use Rattle.journal.specs.declared.store.told.Told.{Told as Known}
 use Rattle.journal.proofs.Told.{no_bytes, told_in}
 use Rattle.journal.specs.contracts.store.told.Told.nothing.{ended, clauses}
 use Rattle.journal.specs.contracts.store.told.Told.nothing.Key.{name as #self}
@@ -25,11 +25,11 @@ nothing_spec 𝓤 𝓛 𝓜 𝓡 wired =
     let H = 𝓛.H in let 𝓣 = tables 𝓤 H 𝓜 𝓡 𝓡.env in let c = clauses 𝓛 𝓜.mem 𝓡.returns in let fn = code.function in
     let hs : Stays ended.signature.params ended.kept = tt in
     proved_at 𝓛 ended hs c 𝓜 𝓡 tt #self fn (code.unfolded 𝓤 H 𝓜 𝓡 wired) (λ z are.
-    let d : Disk = record { appended = []; synced = [] } in let w : Val = no_bytes in
+    let d : Known = record { appended = []; synced = []; faults = 0; locked = false } in let w : Val = no_bytes in
     let Post : Val → SProp 𝓤 = (walk_of 𝓛 ended hs c).post z in
     qed 𝓛 ((raw (alive 𝓛 ended.signature z.0.0 z.0.1) ⊛ ‵ (owns (types_at ended.signature.params z.0.0) z.0.3 z.0.4)) ∷ raw ((c z.0.0 z.0.3).requires z.1) ∷ []) ∵
     move ! (1 ∷ []) $ drop ! $ split ! $
     enter ! 𝓣.C 𝓣.Λ fn [] Post $ alloc_all ! (λ l. pass_all ! refl tt $ sets ! (agg ! (no_more !)) refl (tt, tt) $
     told_in ! d $ use0 𝓛 (raw (fact 𝓤 (d ≡ d))) (fact_i 𝓤 (d ≡ d) (emp 𝓤) refl) $
     returns ! (look_at ! 0 refl) $ free_all ! refl $ move ! (2 ∷ 3 ∷ 1 ∷ 0 ∷ []) $
-    by ! (leaves 𝓛 ended hs c z w (record { appended = []; synced = [] }) tt tt)))
+    by ! (leaves 𝓛 ended hs c z w d tt tt)))
