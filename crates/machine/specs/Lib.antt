@@ -1,0 +1,7 @@
+pub mod Gains
+pub mod Outboxes
+pub mod Effects
+pub mod Inputs
+pub mod Machines
+pub mod Nodes
+pub mod Openings
