@@ -1,0 +1,3 @@
+pub mod Same
+pub mod Used
+pub mod Refusals
