@@ -1,4 +1,1 @@
-pub mod Lines
-pub mod Prints
-pub mod Sessions
 pub mod Started

@@ -1,16 +1,15 @@
--- What a keeper with its journal is when it was opened.
--- Assumes nothing.
-use Rattle.std.specs.Prelude.{◌≡◌, ℕ, false}
+-- What the keeper's program is when it was opened.
+use Rattle.std.specs.Prelude.{◌≡◌, ℕ, List}
+use Rattle.journal.specs.declared.record.Owner.TheVariants as owner
 use Rattle.journal.specs.declared.store.file.FileStore.{FileStore}
 use Rattle.journal.specs.Told.{told}
-use Rattle.lender.specs.Book.{keeper_book}
-use Rattle.lender.specs.OnDisk.{OnDisk}
-use Rattle.keeper.specs.declared.session.Session.{Session}
+use Rattle.machine.specs.Nodes.{state_of}
+use Rattle.keeping.specs.declared.keeper.Keeper.{Keeper}
+use Rattle.keeping.specs.Keepers.{long, durable, volatile}
+use Rattle.keeping.specs.Rules.{fresh, redo}
+use Rattle.startup.specs.declared.session.Session.{Session}
+use Rattle.startup.specs.Openings.{Began}
 
--- memory is what the journal replays to, which is on the disk; it is not up, and its clock was not read yet
-pub record Started (l : ℕ) (s : Session FileStore) : Type 0 where
-  pub kept : OnDisk s.keeper (told s.store.told).appended
-  pub safe : (told s.store.told).synced ≡ (told s.store.told).appended
-  pub long : (keeper_book s.keeper).long ≡ l
-  pub up : s.up ≡ false
-  pub last : s.last ≡ 0
+-- a keeper whose leases run so long, from what the file has; it has not come up
+abbrev pub Started : {P : Type 0} → (long : ℕ) → Session Keeper FileStore P → Type 0
+Started l s = Began owner.Keeper redo fresh (state_of long durable volatile (λ f. told f.told)) l s

@@ -15,7 +15,7 @@ use script::step::parse;
 use site::fault::Fault;
 use site::seen::{Answer, Seen, Shown};
 use startup::print::{answer, refused};
-use startup::serve::{Answers, ROOM};
+use startup::serve::Answers;
 use std::alloc::{AllocError, Global};
 
 /// A rehearsal whose lines are read and answered.
@@ -61,12 +61,7 @@ impl Answers for Stage {
     // what the line says is played; the messages that it sent are printed, and what is said of it
     ghost does = { λ was line p q is. LineDone was.rehearsal is.rehearsal line p q };
 
-    fn answer(
-        &mut self,
-        line: &[u8],
-        _buffer: &mut [u8; ROOM],
-        out: &mut Output,
-    ) -> Result<(), Fault> {
+    fn answer(&mut self, line: &[u8], _buffer: &mut [u8], out: &mut Output) -> Result<(), Fault> {
         let before = self.rehearsal.site.sent();
         let step = parse(line);
         let said = self.rehearsal.play(step)?;

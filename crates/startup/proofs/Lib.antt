@@ -1,3 +1,5 @@
 pub mod Prints
 pub mod Ends
 pub mod Loops
+pub mod Lines
+pub mod Sessions

@@ -12,7 +12,10 @@ use std::fmt;
 
 pub mod failure;
 pub mod print;
+pub mod program;
+pub mod said;
 pub mod serve;
+pub mod session;
 
 /// Why a program does not start.
 #[derive(Clone, Copy, Debug, PartialEq, Eq)]

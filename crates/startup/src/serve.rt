@@ -2,10 +2,12 @@ ghost use Rattle.std.specs.Prelude.{◌≡◌, ◌≤◌, ℕ, List, [], length,
 ghost use Rattle.std.specs.Io.KnownBytes.{Appends};
 ghost use Rattle.std.specs.Process.{exit_status};
 ghost use Rattle.lines.specs.Outputs.{printed};
+ghost use Rattle.startup.specs.Lines.{room};
 ghost use Rattle.startup.specs.Serving.{HandedOn};
 ghost use Rattle.startup.specs.Loops.{Served};
 
 use crate::print::refused;
+use crate::said::ROOM;
 use anyhow::bail;
 use lines::input::{Input, Line};
 use lines::output::Output;
@@ -18,9 +20,6 @@ use std::process::ExitCode;
 
 // So many bytes of answers leave together at most, and one line's more.
 const BATCH: usize = 65536;
-
-/// One byte more than the longest message has, so that no longer one is taken for a message.
-pub const ROOM: usize = 1034;
 
 /// What answers the lines of a program's input.
 pub trait Answers {
@@ -45,9 +44,10 @@ pub trait Answers {
     fn answer(
         &mut self,
         line: &[u8],
-        buffer: &mut [u8; ROOM],
+        buffer: &mut [u8],
         out: &mut Output,
     ) -> Result<(), Self::Failure>
+        requires room { length buffer.old ≡ room }
         ensures kept { OnOk result (keeps self.old → keeps self.new) }
         ensures done { OnOk result (does self.old line.now (printed out.old) (printed out.new) self.new) };
 
@@ -63,9 +63,10 @@ fn answered<A: Answers>(
     to: &mut A,
     line: Line,
     text: &[u8],
-    buffer: &mut [u8; ROOM],
+    buffer: &mut [u8],
     out: &mut Output,
 ) -> Result<(), A::Failure>
+    requires room { length buffer.old ≡ room }
     ensures kept { OnOk result (A.keeps to.old → A.keeps to.new) }
     ensures done { OnOk result (HandedOn A.does line to.old to.new text.now (printed out.old) (printed out.new)) }
 {
@@ -80,9 +81,10 @@ fn hand_on<A: Answers>(
     to: &mut A,
     line: Line,
     text: &[u8],
-    buffer: &mut [u8; ROOM],
+    buffer: &mut [u8],
     out: &mut Output,
 ) -> Result<(), A::Failure>
+    requires room { length buffer.old ≡ room }
     ensures kept { OnOk result (A.keeps to.old → A.keeps to.new) }
     ensures done { OnOk result (HandedOn A.does line to.old to.new text.now (printed out.old) (printed out.new)) }
     ensures failed { OnErr result (length (printed out.new) ≤ length (printed out.old)) }
@@ -119,7 +121,8 @@ pub fn serve_lines<A: Answers, R: Read, W: Write>(
 {
     let mut input = Input::new(heap)?;
     let mut out = Output::new(heap);
-    let mut buffer = [0; ROOM];
+    let mut buffer = Vec::new(heap);
+    buffer.resize(ROOM, 0)?;
     // A count stays: a loop without one would ask for a handle that may wait. 2^64 lines are more than any input has.
     for _ in 0..u64::MAX {
         let Some(line) = input.next_line(stdin)? else {

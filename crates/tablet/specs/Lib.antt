@@ -1,4 +1,2 @@
-pub mod Lines
-pub mod Prints
-pub mod Sessions
+pub mod Calls
 pub mod Started

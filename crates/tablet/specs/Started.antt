@@ -1,17 +1,16 @@
--- What a tablet with its journal is when it was opened.
--- Assumes nothing.
-use Rattle.std.specs.Prelude.{◌≡◌, ℕ}
+-- What a tablet's program is when it was opened.
+use Rattle.std.specs.Prelude.{ℕ}
 use Rattle.part.specs.declared.who.Who.{Who}
+use Rattle.journal.specs.declared.record.Owner.TheVariants as owner
 use Rattle.journal.specs.declared.store.file.FileStore.{FileStore}
 use Rattle.journal.specs.Told.{told}
-use Rattle.borrower.specs.OnDisk.{OnDisk}
-use Rattle.borrower.specs.Opened.{CameUp}
-use Rattle.tablet.specs.declared.session.Session.{Session}
+use Rattle.machine.specs.Nodes.{state_of}
+use Rattle.borrowing.specs.declared.tablet.Tablet.{Tablet}
+use Rattle.borrowing.specs.Tablets.{terms, durable, volatile}
+use Rattle.borrowing.specs.Rules.{fresh, redo}
+use Rattle.startup.specs.declared.session.Session.{Session}
+use Rattle.startup.specs.Openings.{Began}
 
--- it came up from what its journal has, which says the numbers that it has on file, and all of which is on the disk; its clock was not
--- read yet
-pub record Started (w : Who) (s : ℕ) (x : Session FileStore) : Type 0 where
-  pub up : CameUp w s (told x.store.told).appended x.tablet
-  pub kept : OnDisk x.tablet (told x.store.told).appended
-  pub safe : (told x.store.told).synced ≡ (told x.store.told).appended
-  pub last : x.last ≡ 0
+-- this borrower, whose copies are valid so long, from what the file has; it has not come up
+abbrev pub Started : {P : Type 0} → Who → (short : ℕ) → Session Tablet FileStore P → Type 0
+Started w s x = Began owner.Borrower redo fresh (state_of terms durable volatile (λ f. told f.told)) (record { who = w.id; short = s }) x

@@ -1,8 +1,8 @@
 use Rattle.std.proofs.Common.{ℕ, List, ◌++◌, Option, subst, inl, inr, rules}
 use Rattle.lines.specs.declared.input.Line.{Line}
-use Rattle.lines.specs.Inputs.{rest, line_of, Handed}
+use Rattle.lines.specs.Inputs.{rest, line_of, Handed, HandedOut}
 use Rattle.lines.specs.Outputs.{printed}
-use Rattle.startup.proofs.Loops.{handed, gone, on_ok}
+use Rattle.startup.proofs.Loops.{handed, gone, over, on_ok}
 use Rattle.startup.proofs.serve.serve_lines.Goals as goal
 use Rattle.startup.proofs.serve.serve_lines.Goals.{then-is_err+in_ok-settle+in_ok-leave, else-is_err+else-not-has_line+else-len-ge-BATCH}
 
@@ -30,3 +30,9 @@ loop-preserved g c =
         inr (search rules),
       )
     ]
+
+pub returns-in_default-clause-served : goal.returns-in_default-clause-served
+returns-in_default-clause-served g c =
+    let i = c.loop.invariant in
+    let H : Option Line → Type 0 = λ o. HandedOut o (rest c.loop.input) (g.R.Read.remaining c.loop.stdin) (g.R.Read.remaining c.next_line.new.from) (line_of c.next_line.new.self) (rest c.next_line.new.self) in
+    over g.A.Answers.does g.A.Answers.settles g.A.Answers.settled c.args.to.now c.loop.to _ _ _ _ _ (rest c.loop.input) (printed c.loop.out) (line_of c.next_line.new.self) (rest c.next_line.new.self) i.1 i.2 (subst H c.in_default.is c.in_ok-line.ensures)
