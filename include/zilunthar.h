@@ -24,7 +24,8 @@
  * NUMBERS. Each call but zilunthar_release gives one:
  *   0        done
  *   1 to 9   refused by the rules, by the number in docs/RULES.md
- *   10 to 13 not made, and nothing has changed: no handle, no buffer, no reply (below)
+ *   10 to 13 not made, and nothing has changed: no handle, no buffer, no reply (below); but for 12 from a call that does not open:
+ *            then the handle is empty, and is to be opened again from its journal
  */
 #ifndef ZILUNTHAR_H
 #define ZILUNTHAR_H
@@ -41,7 +42,7 @@ extern "C" {
 #define ZILUNTHAR_HANDLE 10
 /* A number is out of range, a slice is of the wrong length, or a buffer has less room than is said here. */
 #define ZILUNTHAR_ARGUMENT 11
-/* There is no memory. */
+/* There is no memory. From a call that does not open: what came of it is lost, the handle is empty, and the buffers and the reply are as they were. */
 #define ZILUNTHAR_NO_MEMORY 12
 /* The bytes are no journal of a keeper, or of a tablet: the file is to be left as it is. */
 #define ZILUNTHAR_NO_JOURNAL 13
@@ -95,7 +96,7 @@ uint8_t zilunthar_keeper_open(zilunthar_handle *keeper, uint64_t long_time, cons
 
 /*
  * The keeper comes up at this reading: its leases are gone and its grace period begins. 0, or 9 and nothing changes where the
- * grace period would pass 64 bits, or 10.
+ * grace period would pass 64 bits, or 1 and nothing changes where it is up, or 10.
  */
 uint8_t zilunthar_keeper_come_up(zilunthar_handle *keeper, uint64_t clock);
 

@@ -1,6 +1,7 @@
+pub mod Fitting
 pub mod Hosts
-pub mod Plain
-pub mod Recalls
+pub mod Rows
 pub mod Slots
+pub mod Steps
 pub mod Values
 pub mod Wholes

@@ -23,7 +23,7 @@ use Rattle.std.proofs.alloc.Global.TheLaws as heap_laws
 use Rattle.std.specs.contracts.impls.GlobalAllocator.TheImpl.{ghosts}
 use Rattle.capi.specs.Owned.{owns_if_any}
 use Rattle.capi.proofs.Values.{both}
-use Rattle.capi.specs.contracts.machine.Machine as machine
+use Rattle.capi.specs.contracts.content.Machine as machine
 use Rattle.capi.specs.contracts.slot.Slot as slot
 
 abbrev pub R : RattleType

@@ -1,8 +1,7 @@
 -- What is written to the buffers of a caller.
 -- Assumes nothing.
-use Rattle.std.specs.Prelude.{◌≡◌, ℕ, ◌*◌, List, ◌++◌, length, drop, Ok, Err, Result}
+use Rattle.std.specs.Prelude.{◌≡◌, ℕ, ◌*◌, List, ◌++◌, length, drop, if◌then◌else◌, ◌==◌}
 use Rattle.std.specs.List.{flat_map}
-use Rattle.message.specs.declared.refusal.Refusal.{Refusal}
 use Rattle.message.specs.Format.{Msg, layout}
 
 -- these bytes are in front, so many, and behind them is what was there
@@ -17,7 +16,6 @@ messages_bytes ms = flat_map layout ms
 abbrev pub Row : List Msg → (count size : ℕ) → (was is : List ℕ) → Type 0
 Row ms n k was is = (n ≡ length ms) × Wrote (messages_bytes ms) (n * k) was is
 
--- the bytes of a copy are in front where they may be shown; where not, the buffer is as it was
-abbrev pub copied : Result (Unit {0}) Refusal → (copy : List ℕ) → (was : List ℕ) → List ℕ
-copied (Ok u) v was = v ++ drop 1024 was
-copied (Err e) v was = was
+-- the bytes of a copy are in front where it is shown by 0; by any other number the buffer is as it was
+abbrev pub copied : (number : ℕ) → (copy : List ℕ) → (was : List ℕ) → List ℕ
+copied n v was = (if n == 0 then v ++ drop 1024 was else was)

@@ -2,16 +2,14 @@
 // The host keeps the journal: it appends and syncs the record of a call before anything of the call leaves.
 #![tactic(auto)]
 
+mod content;
 mod exports;
 mod handle;
-mod keeper;
 mod laws;
 mod loose;
-mod machine;
 mod misuse;
 mod put;
 mod reply;
+mod run;
 mod slot;
-mod tablet;
 mod tell;
-mod what;

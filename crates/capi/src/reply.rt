@@ -1,11 +1,11 @@
-ghost use Rattle.std.specs.Prelude.{◌≡◌, ℕ, ◌/◌, ◌%◌, List};
-ghost use Rattle.borrower.specs.Outcomes.{sent_by};
+ghost use Rattle.std.specs.Prelude.{◌≡◌, ◌/◌, ◌%◌, map};
+ghost use Rattle.machine.specs.Effects.{note_of};
 ghost use Rattle.capi.specs.Numbers.{answer_number};
-ghost use Rattle.capi.specs.Words.{word_of};
+ghost use Rattle.capi.specs.Words.{word_by, word_in};
 
-use message::form::Message;
+use machine::notice::Notice;
 use message::refusal::Refusal;
-use part::head::Head;
+use part::place::Place;
 
 /// What a writer is told of its write: 4 that it is in, 5 that it is void, as the messages that say so begin; the part, and the
 /// number of the write. All 0 where it is told nothing.
@@ -47,31 +47,33 @@ pub fn number_of(answer: Result<(), Refusal>) -> u8
 }
 
 // A word of this kind about a write.
-fn of_write(kind: u8, head: Head) -> Word
-    ensures { result ≡ record { kind = kind; file = head.place.at / 256; part = head.place.at % 256; number = head.number } }
+fn of_write(kind: u8, place: Place, number: u32) -> Word
+    ensures { result ≡ record { kind = kind; file = place.at / 256; part = place.at % 256; number = number } }
 {
     Word {
         kind,
-        file: head.place.file(),
-        part: head.place.part(),
-        number: head.number,
+        file: place.file(),
+        part: place.part(),
+        number,
     }
 }
 
-/// What a writer is told by a message, if there is one.
-pub fn word_in(message: Option<Message>) -> Word
-    ensures { (v : List ℕ) → result ≡ word_of (sent_by v message) }
+// What a writer is told by a notice.
+fn word_by(notice: Notice) -> Word
+    ensures { result ≡ word_by (note_of notice) }
 {
-    match message {
-        Some(Message::In(head)) => of_write(4, head),
-        Some(Message::Void(head)) => of_write(5, head),
-        None
-        | Some(
-            Message::Ask(_)
-            | Message::Loan { .. }
-            | Message::Write(_)
-            | Message::Recall { .. }
-            | Message::Back(_),
-        ) => Word::default(),
+    match notice {
+        Notice::In { place, number } => of_write(4, place, number),
+        Notice::Void { place, number } => of_write(5, place, number),
+    }
+}
+
+/// What a writer is told first, if anything.
+pub fn word_in(notices: &[Notice]) -> Word
+    ensures { result ≡ word_in (map note_of notices.now) }
+{
+    match notices {
+        [notice, ..] => word_by(*notice),
+        [] => Word::default(),
     }
 }

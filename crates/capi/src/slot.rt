@@ -1,11 +1,11 @@
 ghost use Rattle.std.specs.Prelude.{◌≡◌, true, Option, Some, None, is_some};
 ghost use Rattle.std.specs.contracts.impls.GlobalAllocator.TheImpl.{ghosts};
-ghost use Rattle.capi.specs.declared.machine.Machine.{Machine};
-ghost use Rattle.capi.specs.contracts.machine.Machine as machine;
+ghost use Rattle.capi.specs.declared.content.Machine.{Machine};
+ghost use Rattle.capi.specs.contracts.content.Machine as machine;
 ghost use Rattle.capi.specs.Owned.{owns_if_any};
 
+use crate::content::Machine;
 use crate::loose::Loose;
-use crate::machine::Machine;
 use std::alloc::Global;
 use std::marker::Model;
 use std::ptr;

@@ -1,5 +1,7 @@
 ghost use Rattle.capi.specs.Handles.{held};
-ghost use Rattle.capi.specs.Exports.{KeeperOpened, KeeperUp, KeeperHeard};
+ghost use Rattle.capi.specs.Opening.{KeeperOpens};
+ghost use Rattle.capi.specs.Hearing.{KeeperRaises, KeeperReceives};
+ghost use Rattle.capi.specs.Exports.{Opened, Numbered, Replied};
 
 use crate::handle::Handle;
 use crate::reply::Reply;
@@ -15,7 +17,7 @@ pub extern "C" fn zilunthar_keeper_open(
     journal: &[u8],
     whole: &mut usize,
 ) -> u8
-    ensures { KeeperOpened (held keeper.old) (held keeper.new) long journal.now whole.old whole.new result }
+    ensures { Opened (KeeperOpens (held keeper.old) (held keeper.new) long journal.now) whole.old whole.new result }
 {
     tell_size(keeper.keeper_open(heap, long, journal), whole)
 }
@@ -23,7 +25,7 @@ pub extern "C" fn zilunthar_keeper_open(
 /// A keeper comes up at this reading of its clock.
 #[unsafe(no_mangle)]
 pub extern "C" fn zilunthar_keeper_come_up(heap: Global, keeper: &mut Handle, clock: u64) -> u8
-    ensures { KeeperUp (held keeper.old) (held keeper.new) clock result }
+    ensures { Numbered (KeeperRaises clock (held keeper.old) (held keeper.new)) result }
 {
     tell_number(keeper.come_up(heap, clock))
 }
@@ -39,7 +41,7 @@ pub extern "C" fn zilunthar_keeper_receive(
     sent: &mut [u8],
     reply: &mut Reply,
 ) -> u8
-    ensures { KeeperHeard (held keeper.old) (held keeper.new) clock message.now reply.old reply.new filed.old filed.new sent.old sent.new result }
+    ensures { Replied (λ r. KeeperReceives clock message.now (held keeper.old) (held keeper.new) r filed.old filed.new sent.old sent.new) reply.old reply.new result }
 {
     tell_answer(
         keeper.keeper_receive(heap, clock, message, filed, sent),

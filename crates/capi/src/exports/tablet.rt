@@ -1,15 +1,14 @@
-ghost use Rattle.std.specs.Prelude.{length};
-ghost use Rattle.borrower.specs.declared.outcome.Call.TheVariants.{Show, Forget};
+ghost use Rattle.std.specs.Prelude.{Some};
+ghost use Rattle.machine.specs.Inputs.{Came};
 ghost use Rattle.capi.specs.Handles.{held};
-ghost use Rattle.capi.specs.Asked.{named, asked, written};
-ghost use Rattle.capi.specs.Hearing.{no_bytes};
-ghost use Rattle.capi.specs.Exports.{TabletOpened, TabletCalled, TabletShown, TabletHeard};
+ghost use Rattle.capi.specs.Asked.{named, asked, written, forgetting};
+ghost use Rattle.capi.specs.Opening.{TabletOpens};
+ghost use Rattle.capi.specs.Hearing.{Steps, Shows};
+ghost use Rattle.capi.specs.Exports.{Opened, Replied};
 
 use crate::handle::Handle;
 use crate::reply::Reply;
 use crate::tell::{tell_answer, tell_size};
-use crate::what::{ask, naming};
-use borrower::outcome::Call;
 use std::alloc::Global;
 
 /// An empty handle holds a tablet of this borrower from the bytes of its journal, of which `whole` are whole records.
@@ -22,7 +21,7 @@ pub extern "C" fn zilunthar_tablet_open(
     journal: &[u8],
     whole: &mut usize,
 ) -> u8
-    ensures { TabletOpened (held tablet.old) (held tablet.new) who short journal.now whole.old whole.new result }
+    ensures { Opened (TabletOpens (held tablet.old) (held tablet.new) who short journal.now) whole.old whole.new result }
 {
     tell_size(tablet.tablet_open(heap, who, short, journal), whole)
 }
@@ -40,11 +39,10 @@ pub extern "C" fn zilunthar_tablet_ask(
     sent: &mut [u8],
     reply: &mut Reply,
 ) -> u8
-    ensures { TabletCalled (held tablet.old) (held tablet.new) clock (asked file part kind) no_bytes reply.old reply.new filed.old filed.new sent.old sent.new result }
+    ensures { Replied (λ r. Steps clock (asked file part kind) (held tablet.old) (held tablet.new) r filed.old filed.new sent.old sent.new) reply.old reply.new result }
 {
-    let what = ask(file, part, kind);
     tell_answer(
-        tablet.call(heap, clock, what, &[0; 1024], filed, sent),
+        tablet.ask(heap, clock, file, part, kind, filed, sent),
         reply,
     )
 }
@@ -61,10 +59,9 @@ pub extern "C" fn zilunthar_tablet_show(
     copy: &mut [u8],
     reply: &mut Reply,
 ) -> u8
-    ensures { TabletShown (held tablet.old) (held tablet.new) clock (named file part Show) reply.old reply.new filed.old filed.new copy.old copy.new result }
+    ensures { Replied (λ r. Shows clock (named file part) (held tablet.old) (held tablet.new) r filed.old filed.new copy.old copy.new) reply.old reply.new result }
 {
-    let what = naming(file, part, Call::Show);
-    tell_answer(tablet.show(heap, clock, what, filed, copy), reply)
+    tell_answer(tablet.show(heap, clock, file, part, filed, copy), reply)
 }
 
 /// A tablet writes a part, with these 1,024 bytes.
@@ -80,7 +77,7 @@ pub extern "C" fn zilunthar_tablet_write(
     sent: &mut [u8],
     reply: &mut Reply,
 ) -> u8
-    ensures { TabletCalled (held tablet.old) (held tablet.new) clock (written file part (length bytes.now)) bytes.now reply.old reply.new filed.old filed.new sent.old sent.new result }
+    ensures { Replied (λ r. Steps clock (written file part bytes.now) (held tablet.old) (held tablet.new) r filed.old filed.new sent.old sent.new) reply.old reply.new result }
 {
     tell_answer(
         tablet.write(heap, clock, file, part, bytes, filed, sent),
@@ -99,10 +96,9 @@ pub extern "C" fn zilunthar_tablet_forget(
     sent: &mut [u8],
     reply: &mut Reply,
 ) -> u8
-    ensures { TabletCalled (held tablet.old) (held tablet.new) 0 (named file part Forget) no_bytes reply.old reply.new filed.old filed.new sent.old sent.new result }
+    ensures { Replied (λ r. Steps 0 (forgetting file part) (held tablet.old) (held tablet.new) r filed.old filed.new sent.old sent.new) reply.old reply.new result }
 {
-    let what = naming(file, part, Call::Forget);
-    tell_answer(tablet.call(heap, 0, what, &[0; 1024], filed, sent), reply)
+    tell_answer(tablet.forget(heap, file, part, filed, sent), reply)
 }
 
 /// A message comes to a tablet.
@@ -115,7 +111,7 @@ pub extern "C" fn zilunthar_tablet_receive(
     sent: &mut [u8],
     reply: &mut Reply,
 ) -> u8
-    ensures { TabletHeard (held tablet.old) (held tablet.new) message.now reply.old reply.new filed.old filed.new sent.old sent.new result }
+    ensures { Replied (λ r. Steps 0 (Some (Came message.now)) (held tablet.old) (held tablet.new) r filed.old filed.new sent.old sent.new) reply.old reply.new result }
 {
     tell_answer(tablet.tablet_receive(heap, message, filed, sent), reply)
 }
