@@ -21,6 +21,8 @@ Taken was bs is (Err NoMemory) = ⊥
 abbrev pub Got : (was is : Told) → (room : ℕ) → (block : List ℕ) → Result ℕ StoreError → Type 0
 Got was is room block (Ok n) =
     (n ≤ room) × (is.appended ≡ was.appended ++ take n block)
-    × (is.synced ≡ was.synced ++ take n block) × (was.faults ≤ is.faults)
-Got was is room block (Err Failed) = (told is ≡ told was) × (was.faults < is.faults)
+    × (is.synced ≡ was.synced ++ take n block) × (is.found ≡ was.found ++ take n block)
+    × (was.faults ≤ is.faults)
+Got was is room block (Err Failed) =
+    (told is ≡ told was) × (is.found ≡ was.found) × (was.faults < is.faults)
 Got was is room block (Err NoMemory) = ⊥

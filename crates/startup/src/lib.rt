@@ -16,6 +16,7 @@ pub mod program;
 pub mod said;
 pub mod serve;
 pub mod session;
+pub mod unopened;
 
 /// Why a program does not start.
 #[derive(Clone, Copy, Debug, PartialEq, Eq)]

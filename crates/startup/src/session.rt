@@ -4,7 +4,7 @@ use crate::print::refused;
 use crate::program::Program;
 use crate::said::{Said, read};
 use crate::serve::Answers;
-use journal::replay::OpenError;
+use crate::unopened::Unopened;
 use journal::source::file::FileSource;
 use journal::store::file::FileStore;
 use journal::store::{Store, StoreError};
@@ -29,21 +29,33 @@ pub struct Session<M, S, P> {
 }
 
 impl<M: Machine + Drop, P: Program<M>> Session<M, FileStore, P> {
-    ghost use Rattle.std.specs.Prelude.{◌≡◌, [], IfOk};
+    ghost use Rattle.std.specs.Prelude.{◌≡◌, [], IfOk, IfErr};
     ghost use Rattle.journal.specs.Told.{told};
     ghost use Rattle.machine.specs.Nodes.{state_of};
-    ghost use Rattle.startup.specs.Openings.{Began};
+    ghost use Rattle.startup.specs.Openings.{Began, NotBegun};
 
-    /// A machine from the journal in a file, of which nothing was read yet. It is cut after its last whole record, on the disk too.
+    /// A machine from the journal in a file, of which nothing was read yet. The file is cut after its last whole record, on the disk
+    /// too. One that is no journal of this owner's is left as it is.
     pub fn open(
         heap: Global,
         setting: M::Setting,
         mut journal: FileSource,
-    ) -> Result<Session<M, FileStore, P>, OpenError>
-        ensures { journal.told.appended ≡ [] → IfOk result (Began M.owner M.redo M.fresh (state_of M.terms M.durable M.volatile (λ f. told f.told)) (M.terms_of setting)) }
+    ) -> Result<Session<M, FileStore, P>, Unopened>
+        ensures began { journal.told.appended ≡ [] → IfOk result (Began M.owner M.redo M.fresh
+            (state_of M.terms M.durable M.volatile (λ f. told f.told)) (λ f. f.told.found)
+            (M.terms_of setting)) }
+        ensures spared { journal.told.appended ≡ [] → IfErr result (NotBegun M.owner) }
     {
-        let (machine, size) = open(heap, setting, &mut journal)?;
-        let store = journal.cut(size)?;
+        let (machine, size) = match open(heap, setting, &mut journal) {
+            Ok(opened) => opened,
+            Err(why) => {
+                return Err(Unopened {
+                    why,
+                    known: journal.close(),
+                });
+            }
+        };
+        let store = journal.cut(size).map_err(Unopened::uncut)?;
         Ok(Session::new(heap, Node::opened(machine, store)))
     }
 }

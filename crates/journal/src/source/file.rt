@@ -59,8 +59,8 @@ impl From<TryLockError> for FileError {
 /// Why a file was not cut.
 #[derive(Drop)]
 pub enum CutError {
-    /// it was not read to its end
-    Unread,
+    /// it was not read to its end; what is known of the file
+    Unread(Told),
     /// the disk failed; what is known of the file then
     Failed(Told),
 }
@@ -76,6 +76,7 @@ pub struct FileSource {
     ghost long: { size < 18446744073709551615 → length told.appended ≤ size },
     ghost safe: { told.synced ≡ told.appended },
     ghost alone: { told.locked ≡ true },
+    ghost uncut: { told.found ≡ told.appended },
 }
 
 // Brings the folder of a file to the disk, so that the file's name is there after a stop.
@@ -137,12 +138,21 @@ impl FileSource {
         })
     }
 
+    /// Lets go of the file, as it is; what is known of it.
+    pub fn close(self) -> Told
+        ensures { result ≡ self.told }
+    {
+        let FileSource { told, .. } = self;
+        told
+    }
+
     /// Cuts the file to so many of the bytes that were read, on the disk too: from now on it is
     /// written. Before all of it was read, that is refused.
     pub fn cut(self, size: usize) -> Result<FileStore, CutError>
-        ensures uncut { IfErr result (λ why. Uncut self why) }
+        ensures uncut { IfErr result (Uncut self size) }
         ensures cut { IfOk result (λ f. (f.told.appended ≡ take size self.told.appended)
             × (f.told.synced ≡ f.told.appended) × (self.ended ≡ true)) }
+        ensures found { IfOk result (λ f. f.told.found ≡ self.told.found) }
     {
         let FileSource {
             file,
@@ -151,15 +161,19 @@ impl FileSource {
             ended,
         } = self;
         if !ended {
-            return Err(CutError::Unread);
+            return Err(CutError::Unread(told));
         }
         if size < long || long == usize::MAX {
             // `as u64` stays: the library has no `From` for it.
-            if file.set_len(size as u64).is_err() || file.sync_data().is_err() {
+            if file.set_len(size as u64).is_err() {
                 told.fail();
                 return Err(CutError::Failed(told));
             }
             told.cut(size);
+            if file.sync_data().is_err() {
+                told.fail();
+                return Err(CutError::Failed(told));
+            }
         }
         Ok(FileStore::begin(file, told))
     }

@@ -4,14 +4,16 @@ ghost use base.Fml.{ftrue};
 
 use std::marker::Model;
 
-/// What a file of the system has, how often the system failed, and whether no other program has the
-/// file, as far as it is known: no code holds it. What the system does with a file is beyond the
+/// What a file of the system has, what was found in it, how often the system failed, and whether no
+/// other program has the file, as far as it is known: no code holds it. What the system does with a file is beyond the
 /// proofs. So nothing ties this to the file but that each call of the system stands beside a step
 /// here: whoever calls the one calls the other.
 #[derive(Drop)]
 pub struct Told {
     pub ghost appended: { List ℕ } by { coded_list coded_ℕ },
     pub ghost synced: { List ℕ } by { coded_list coded_ℕ },
+    // what was read of it, before it was cut or anything was appended
+    pub ghost found: { List ℕ } by { coded_list coded_ℕ },
     pub ghost faults: { ℕ } by { coded_ℕ },
     pub ghost locked: { Bool } by { coded_bool },
 }
@@ -26,7 +28,7 @@ impl Told {
 
     /// Nothing is known of the file yet.
     pub fn nothing() -> Told
-        ensures { result ≡ record { appended = []; synced = []; faults = 0; locked = false } }
+        ensures { result ≡ record { appended = []; synced = []; found = []; faults = 0; locked = false } }
     {
         Told {}
     }
@@ -51,6 +53,7 @@ impl Told {
         ensures { self.new ≡ record self.old {
           appended = self.old.appended ++ bytes.now;
           synced = self.old.synced ++ bytes.now;
+          found = self.old.found ++ bytes.now;
         } }
     {
         *self = Told::next(self, bytes, 0);

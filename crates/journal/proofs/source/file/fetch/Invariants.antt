@@ -6,6 +6,7 @@ abbrev pub invariant-loop : goal.invariant-loop
 invariant-loop l = record {
   appended : l.known.appended ≡ l.initial.known.appended;
   synced : l.known.synced ≡ l.initial.known.synced;
+  found : l.known.found ≡ l.initial.known.found;
   locked : l.known.locked ≡ l.initial.known.locked;
   turns : l.known.faults ≡ l.initial.known.faults + l.counter;
 }
