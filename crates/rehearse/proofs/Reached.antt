@@ -33,8 +33,8 @@ module _ (was is : Rehearsal) (said : Said) (before : Reached was.site) where
   set k bs false e h = let x = rw e at h in at_first _ _ is x.0
 
   ticked : (t : ℕ) (by : List ℕ) → Ticked was is t by said → Reached is.site
-  ticked t by (b, (Ok u, h, o, s)) = on was.site is.site (tick (passing t by)) o before
-  ticked t by (b, (Err e, h, o, s)) = same was.site is.site h.0 before
+  ticked t by (b, k, (Ok u, h, o, s)) = on was.site is.site (tick (passing t by)) o before
+  ticked t by (b, k, (Err e, h, o, s)) = same was.site is.site h.0 before
 
   event : (e : Event) → EventPlayed was is e said → Reached is.site
   event e p = on was.site is.site e p.onward before

@@ -53,12 +53,13 @@ SetTo was is k bs said =
 -- time goes on, exactly where every clock stays within its error
 abbrev pub Ticked : (was is : Rehearsal) (time : ℕ) (by : List ℕ) → Said → Type 0
 Ticked was is t by said =
-    (is.begun ≡ true)
+    (is.begun ≡ true) × (is.terms ≡ was.terms)
     × ((r : Result (Unit {0}) NoPass) × Ticks was.site is.site t by r × OnOk r (Onward was.site is.site (tick (passing t by))) × (said ≡ only (cond (is_ok r) (Ok tt) (Err Malformed))))
 
 -- an event happens
 pub record EventPlayed (was is : Rehearsal) (e : Event) (said : Said) : Type 0 where
   pub begun : is.begun ≡ true
+  pub terms : is.terms ≡ was.terms
   pub seen : Sight
   pub says : said ≡ Seen seen
   pub plays : Plays was.site is.site e seen
@@ -67,6 +68,8 @@ pub record EventPlayed (was is : Rehearsal) (e : Event) (said : Said) : Type 0 w
 -- a borrower shows a part, beside what the keeper has: what is shown is fresh
 pub record ShowPlayed (was is : Rehearsal) (who place : ℕ) (said : Said) : Type 0 where
   pub begun : is.begun ≡ true
+  pub terms : is.terms ≡ was.terms
+  pub clocks : is.site.clocks ≡ was.site.clocks
   pub shown : View
   pub kept : List ℕ
   pub says : said ≡ Shown shown kept
@@ -103,7 +106,8 @@ target_of w m (Some x) = Some x
 
 -- nothing happens, and the line is refused by 1
 abbrev pub TurnedAway : (was is : Rehearsal) → Said → Type 0
-TurnedAway was is said = (is.site ≡ was.site) × (is.begun ≡ true) × (said ≡ refused)
+TurnedAway was is said =
+    (is.site ≡ was.site) × (is.terms ≡ was.terms) × (is.begun ≡ true) × (said ≡ refused)
 
 -- so many bytes arrive, or all; no message is longer than the largest size
 abbrev pub size_of : (cut : Option ℕ) → ℕ

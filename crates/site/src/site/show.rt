@@ -27,6 +27,7 @@ impl Site {
         ensures shows { IfOk result (Shows (world_of self.old) (borrower_number who) place.at) }
         ensures fresh { IfOk result (Fresh self.old place.at) }
         ensures onward { IfOk result (λ _. Onward self.old self.new (show_of (borrower_number who) place.at)) }
+        ensures clocks { IfOk result (λ _. self.new.clocks ≡ self.old.clocks) }
     {
         let seen = self.play(&Event::Call {
             who,
