@@ -1,7 +1,7 @@
 -- Whatever a line says, the site was reached by events afterwards if it was before.
 -- Assumes nothing.
-use Rattle.std.proofs.Common.{◌≡◌, ℕ, Bool, true, false, List, [], ◌∷◌, Some, None, Option, Ok, Err, refl, sym, subst}
-use Rattle.std.specs.Prelude.{MatchOption}
+use Rattle.std.proofs.Common.{◌≡◌, ℕ, Bool, true, false, List, [], ◌∷◌, Some, None, Option, Ok, Err, Result, refl, sym, subst}
+use Rattle.std.specs.Prelude.{MatchOption, IfOk, OnOk}
 use Rattle.part.specs.declared.place.Place.{Place}
 use Rattle.clock.specs.declared.terms.Terms.{Terms}
 use Rattle.clock.specs.Clocks.{passing}
@@ -69,3 +69,7 @@ module _ (was is : Rehearsal) (said : Said) (before : Reached was.site) where
   pub played_on : (s : Option (Step Place)) → Played was is s said → Reached is.site
   played_on None (e, h) = subst (λ (r : Rehearsal). Reached r.site) (sym e) before
   played_on (Some s) h = step_on s h
+
+pub returned : {E : Type 0} (was is : Rehearsal) (s : Step Place) (r : Result Said E) → IfOk r (Played was is (Some s)) → OnOk r (Reached was.site → Reached is.site)
+returned was is s (Ok said) p = λ before. played_on was is said before (Some s) p
+returned was is s (Err e) p = tt

@@ -178,13 +178,12 @@ impl Rehearsal {
         let Some(to) = self.target(message, to) else {
             return Ok(self.turn_away());
         };
-        let said = self.happen(&Event::Deliver {
+        self.happen(&Event::Deliver {
             message,
             size: size(cut),
             to,
             torn,
-        })?;
-        Ok(said)
+        })
     }
 
     // Plays one line in a form.
@@ -221,8 +220,7 @@ impl Rehearsal {
         let Some(step) = step else {
             return Ok(given(Err(Refusal::Malformed)));
         };
-        let said = self.play_step(step)?;
-        Ok(said)
+        self.play_step(step)
     }
 }
 

@@ -11,7 +11,7 @@ use clock::terms::Terms;
 use lines::output::Output;
 use message::form::Message;
 use message::refusal::Refusal;
-use script::step::parse;
+use script::step::{Step, parse};
 use site::fault::Fault;
 use site::seen::{Answer, Seen, Shown};
 use startup::print::{answer, refused};
@@ -64,6 +64,10 @@ impl Answers for Stage {
     fn answer(&mut self, line: &[u8], _buffer: &mut [u8], out: &mut Output) -> Result<(), Fault> {
         let before = self.rehearsal.site.sent();
         let step = parse(line);
+        // nothing is played or said of such a line
+        if let Some(Step::Blank) = step {
+            return Ok(());
+        }
         let said = self.rehearsal.play(step)?;
         // where all begins anew, what was sent before is gone, and none is left to be printed
         self.sent_since(before, out)?;
