@@ -1,10 +1,10 @@
 -- What the calls on a machine of the host leave of it, by the machine's rules, and what the host has of them.
-use Rattle.std.specs.Prelude.{◌≡◌, ℕ, List, Some, None, Ok, Err, Option, Result, fold}
+use Rattle.std.specs.Prelude.{◌≡◌, ℕ, true, List, Some, None, Ok, Err, Option, Result, fold}
 use Rattle.message.specs.declared.refusal.Refusal.{Refusal}
 use Rattle.journal.specs.declared.record.Owner.{Owner}
 use Rattle.journal.specs.Records.{Rec, AllSound}
 use Rattle.machine.specs.declared.effects.Effects as code
-use Rattle.machine.specs.Effects.{Effect}
+use Rattle.machine.specs.Effects.{Effect, has_failed}
 use Rattle.machine.specs.Machines.{Woke}
 use Rattle.machine.specs.Nodes.{Has}
 use Rattle.capi.specs.declared.misuse.Misuse.{Misuse}
@@ -35,10 +35,13 @@ module _ (o : Owner) {T D V : Type 0} (redo : D → Rec → D) (rules : T → D 
     pub sound : AllSound o (rules was.terms was.durable before).1.records
     pub says : Says (rules was.terms was.durable before).1 a filed_was filed_is sent_was sent_is
 
-  -- the same; or it was not up, and all is as it was; or there was no memory for what came of it, and the buffers are as they were
-  abbrev pub Ran : {R : Type 0} → (has : R → Has T D V) → (was is : R) → Result Answer Misuse → (filed_was filed_is sent_was sent_is : List ℕ) → Type 0
+  -- the same; or it was not up, and all is as it was; or some of what came of it is lost for want of
+  -- memory, and the buffers are as they were
+  abbrev pub Ran : {M : Type 0} → (has : Run M → Has T D V) → (was is : Run M)
+      → Result Answer Misuse → (filed_was filed_is sent_was sent_is : List ℕ) → Type 0
   Ran has was is (Ok a) fw fi sw si = Did (has was) (has is) a fw fi sw si
   Ran has was is (Err why.Handle) fw fi sw si = ((has was).volatile ≡ None) × (is ≡ was) × (fi ≡ fw) × (si ≡ sw)
-  Ran has was is (Err why.NoMemory) fw fi sw si = (fi ≡ fw) × (si ≡ sw)
+  Ran has was is (Err why.NoMemory) fw fi sw si =
+      (has_failed is.out ≡ true) × (fi ≡ fw) × (si ≡ sw)
   Ran has was is (Err why.Argument) fw fi sw si = ⊥
   Ran has was is (Err why.NoJournal) fw fi sw si = ⊥
