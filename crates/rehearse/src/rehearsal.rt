@@ -187,10 +187,10 @@ impl Rehearsal {
     }
 
     // Plays one line in a form.
-    fn play_step(&mut self, step: Step<Place>) -> Result<Said, Fault>
-        ensures { IfOk result (Played self.old self.new (Some step)) }
+    fn play_step(&mut self, step: &Step<Place>) -> Result<Said, Fault>
+        ensures { IfOk result (Played self.old self.new (Some step.now)) }
     {
-        match step {
+        match *step {
             Step::Blank => Ok(Said::Nothing),
             Step::Set { keeper, borrowers } => Ok(self.set(keeper, borrowers)),
             Step::Anew => Ok(self.anew()),
@@ -220,7 +220,7 @@ impl Rehearsal {
         let Some(step) = step else {
             return Ok(given(Err(Refusal::Malformed)));
         };
-        self.play_step(step)
+        self.play_step(&step)
     }
 }
 

@@ -17,30 +17,30 @@ impl Site {
     fn happen(&mut self, event: &Event) -> Result<Seen, Fault>
         ensures { IfOk result (Plays self.old self.new (event_of event.now)) }
     {
-        match *event {
+        match event {
             Event::Call {
                 who,
                 place,
                 call,
                 bytes,
                 torn,
-            } => match torn {
-                None => self.call(who, place, call, &bytes),
-                Some(left) => self.call_torn(who, place, call, &bytes, left),
+            } => match *torn {
+                None => self.call(*who, *place, *call, bytes),
+                Some(left) => self.call_torn(*who, *place, *call, bytes, left),
             },
             Event::Deliver {
                 message,
                 size,
                 to,
                 torn,
-            } => match (to, torn) {
-                (Node::Keeper, None) => self.deliver_to_keeper(message, size),
-                (Node::Keeper, Some(left)) => self.tear_keeper(message, size, left),
-                (Node::Borrower(who), None) => self.deliver_to_borrower(message, size, who),
-                (Node::Borrower(who), Some(left)) => self.tear_borrower(message, size, who, left),
+            } => match (*to, *torn) {
+                (Node::Keeper, None) => self.deliver_to_keeper(*message, *size),
+                (Node::Keeper, Some(left)) => self.tear_keeper(*message, *size, left),
+                (Node::Borrower(who), None) => self.deliver_to_borrower(*message, *size, who),
+                (Node::Borrower(who), Some(left)) => self.tear_borrower(*message, *size, who, left),
             },
-            Event::Stop(node) => Ok(self.stop(node)),
-            Event::Up(node) => self.come_up(node),
+            Event::Stop(node) => Ok(self.stop(*node)),
+            Event::Up(node) => self.come_up(*node),
         }
     }
 
