@@ -5,6 +5,7 @@ use Rattle.capi.specs.declared.content.Machine.{Machine}
 use Rattle.capi.specs.declared.misuse.Misuse.{Misuse}
 use Rattle.capi.specs.declared.misuse.Misuse.TheVariants as why
 use Rattle.capi.specs.declared.reply.Answer.{Answer}
+use Rattle.capi.specs.Handles.{kept_after}
 use Rattle.capi.specs.Machines.{KeeperRaised, KeeperDid, TabletDid, TabletShowed}
 
 -- a buffer has less room than is said
@@ -17,14 +18,13 @@ KeeperRaises c None is r = (r ≡ Err why.Handle) × (is ≡ None)
 KeeperRaises c (Some m) (Some n) r = KeeperRaised c m n r
 KeeperRaises c (Some m) None r = ⊥
 
--- A CALL WITH BUFFERS: the machine behind the handle did this; where there was no memory for what came of it, the handle is empty, and
--- the buffers are as they were; with bad arguments, and where the handle is empty, all is as it was
+-- A CALL WITH BUFFERS: the machine behind the handle did this, and is held from then on, but where there was no memory for what
+-- came of it: then the handle is empty, and the buffers are as they were; with bad arguments, and where the handle is empty, all is
+-- as it was
 abbrev pub Behind : (P : (was is : Machine) → Result Answer Misuse → Type 0) → (bad same : Type 0) → (was is : Option Machine) → Result Answer Misuse → Type 0
 Behind P b s was is (Err why.Argument) = b × (is ≡ was) × s
 Behind P b s None is r = (r ≡ Err why.Handle) × (is ≡ None) × s
-Behind P b s (Some m) None (Err why.NoMemory) = s
-Behind P b s (Some m) None r = ⊥
-Behind P b s (Some m) (Some n) r = P m n r
+Behind P b s (Some m) is r = (n : Machine) × P m n r × (is ≡ kept_after r n)
 
 abbrev pub KeeperReceives : (clock : ℕ) → (bytes : List ℕ) → (was is : Option Machine) → Result Answer Misuse → (filed_was filed_is sent_was sent_is : List ℕ) → Type 0
 KeeperReceives c bs was is r fw fi sw si =

@@ -5,8 +5,8 @@ ghost use Rattle.capi.specs.declared.misuse.Misuse.TheVariants.{NoMemory, NoJour
 use message::form::Malformed;
 use std::alloc::AllocError;
 
-/// Why a call of the host was not made. Nothing has changed then: no handle, no buffer, and not the reply. But a handle holds nothing
-/// any more where there was no memory for what came of a step.
+/// Why a call of the host was not made. Nothing has changed then: no handle, no buffer, and not the reply; but where there was no
+/// memory for what came of a step, the handle is empty.
 #[derive(Clone, Copy, Debug, PartialEq, Eq)]
 pub enum Misuse {
     /// the handle holds no keeper that is up, or no tablet; or, where it is to be filled, it holds something already
