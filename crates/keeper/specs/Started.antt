@@ -12,4 +12,6 @@ use Rattle.startup.specs.Openings.{Began}
 
 -- a keeper whose leases run so long, from what the file has; it has not come up
 abbrev pub Started : {P : Type 0} → (long : ℕ) → Session Keeper FileStore P → Type 0
-Started l s = Began owner.Keeper redo fresh (state_of long durable volatile (λ f. told f.told)) (λ f. f.told.found) l s
+Started l s =
+    Began owner.Keeper redo fresh (state_of long durable volatile (λ f. told f.told))
+    (λ f. f.told.found) l s

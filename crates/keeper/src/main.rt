@@ -33,7 +33,7 @@ fn open(
 ) -> Result<Session<Keeper, FileStore, ByLines>, OpenError>
     ensures { journal.told.appended ≡ [] → IfOk result (Started terms.long) }
 {
-    Session::open(heap, terms.long, journal).map_err(|unopened| unopened.why)
+    Ok(Session::open(heap, terms.long, journal)?)
 }
 
 fn run(rt: &HostRuntime) -> anyhow::Result<()> {

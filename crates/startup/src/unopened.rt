@@ -16,7 +16,7 @@ impl Unopened {
     ghost use Rattle.journal.specs.declared.replay.OpenError.TheVariants.{Store};
     ghost use Rattle.journal.specs.declared.store.StoreError.TheVariants.{Failed};
 
-    /// It was read, and could not be cut.
+    /// It could not be cut, or was not read to its end before.
     pub fn uncut(why: CutError) -> Unopened
         ensures why { result.why ≡ Store Failed }
         ensures known { result.known ≡ told_by why }
@@ -29,5 +29,16 @@ impl Unopened {
             why: OpenError::Store(StoreError::Failed),
             known,
         }
+    }
+}
+
+// Where nobody asks what is left of the file.
+impl From<Unopened> for OpenError {
+    ghost use Rattle.std.specs.Prelude.{◌≡◌};
+
+    ghost from_gives = { λ u e. e ≡ u.why };
+
+    fn from(unopened: Unopened) -> OpenError {
+        unopened.why
     }
 }

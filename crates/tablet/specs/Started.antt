@@ -13,4 +13,6 @@ use Rattle.startup.specs.Openings.{Began}
 
 -- this borrower, whose copies are valid so long, from what the file has; it has not come up
 abbrev pub Started : {P : Type 0} → Who → (short : ℕ) → Session Tablet FileStore P → Type 0
-Started w s x = Began owner.Borrower redo fresh (state_of terms durable volatile (λ f. told f.told)) (λ f. f.told.found) (record { who = w.id; short = s }) x
+Started w s x =
+    Began owner.Borrower redo fresh (state_of terms durable volatile (λ f. told f.told))
+    (λ f. f.told.found) (record { who = w.id; short = s }) x

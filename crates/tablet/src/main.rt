@@ -44,7 +44,7 @@ fn open(
     ensures { journal.told.appended ≡ [] → IfOk result (Started who terms.short) }
 {
     let short = terms.short;
-    Session::open(heap, Setting { who, short }, journal).map_err(|unopened| unopened.why)
+    Ok(Session::open(heap, Setting { who, short }, journal)?)
 }
 
 // Like the keeper's, and of other arguments and another owner of a journal: what the two share is in `startup`.
